@@ -1,0 +1,66 @@
+-- Commands on the blocks: READ, WRITE, UNMAP. They are guarded by the reservation, and change the pool alone.
+-- Assumes nothing.
+use mathlib.Core.Bool.{Bool, true, false, _&&_}
+use mathlib.Core.List.{List, [], _∷_}
+use Prim.Native.Nat.{ℕ, _+_, _*_}
+use lib.Dec.{leb, ltb}
+use lib.ListN.{length}
+use Rattle.answers.specs.declared.Answer.the-variants.{Conflict, Short}
+use Rattle.answers.specs.Answers.{outOfRange, listLength, listField, noRoom}
+use Rattle.answers.specs.Order.{Row, _if_}
+use Rattle.map.specs.Pool.{Pool, free, unmapped, readBlocks, writeBlocks}
+use Rattle.descriptors.specs.Descriptors.{considered, someFails, unmapAll}
+use Rattle.reservations.specs.declared.Access.{Access}
+use Rattle.reservations.specs.declared.Access.the-variants.{Reads, Writes}
+use Rattle.reservations.specs.Conflict.{conflict}
+use Rattle.forms.specs.declared.Move.{Move}
+use Rattle.forms.specs.declared.Move.the-variants.{Read, Write, Unmap}
+use Rattle.forms.specs.declared.Form.{Form}
+use Rattle.forms.specs.Forms.{addressOf, sizeOf}
+use Rattle.commands.specs.declared.Unit.{Unit}
+use Rattle.commands.specs.Store.{Call}
+
+unfoldable pub access : Move → Access
+access Read = Reads
+access Write = Writes
+access Unmap = Writes
+
+-- "block address + count > capacity"; the sum is one of numbers and cannot wrap
+unfoldable pub pastEnd : Form → ℕ → List ℕ → Bool
+pastEnd f capacity cdb = ltb capacity (addressOf f cdb + sizeOf f cdb)
+
+-- "READ: 10, 3, 12. WRITE: 10, 3, 12, 8."
+-- "UNMAP: 10; list length 0 gives GOOD; length 1 to 7 gives 4; 12; more than 16 descriptors 5; 3 if any descriptor fails."
+-- These are the tests after the 10.
+unfoldable pub rangeRows : Form → Move → ℕ → Pool → Call → List Row
+rangeRows f Read capacity p c =
+    outOfRange if pastEnd f capacity (c .cdb)
+    ∷ Short if ltb (length (c .dataIn)) (512 * sizeOf f (c .cdb))
+    ∷ []
+rangeRows f Write capacity p c =
+    outOfRange if pastEnd f capacity (c .cdb)
+    ∷ Short if ltb (length (c .dataOut)) (512 * sizeOf f (c .cdb))
+    ∷ noRoom if ltb (free (p .owners)) (unmapped (p .owners) (addressOf f (c .cdb)) (sizeOf f (c .cdb)))
+    ∷ []
+rangeRows f Unmap capacity p c =
+    listLength if (leb 1 (sizeOf f (c .cdb)) && leb (sizeOf f (c .cdb)) 7)
+    ∷ Short if ltb (length (c .dataOut)) (sizeOf f (c .cdb))
+    ∷ listField if ltb 16 (considered (sizeOf f (c .cdb)) (c .dataOut))
+    ∷ outOfRange if someFails capacity (c .dataOut) 8 (considered (sizeOf f (c .cdb)) (c .dataOut))
+    ∷ []
+
+unfoldable pub moveRows : Form → Move → Unit → Pool → Call → List Row
+moveRows f m u p c = Conflict if conflict (u .rights) (c .nexus) (access m) ∷ rangeRows f m (u .capacity) p c
+
+-- the pool after a command that nothing refuses
+unfoldable pub moved : Form → Move → Pool → Call → Pool
+moved f Read p c = p
+moved f Write p c = writeBlocks p (addressOf f (c .cdb)) (sizeOf f (c .cdb)) (c .dataOut)
+moved f Unmap p c =
+    record { owners = unmapAll (p .owners) (c .dataOut) 8 (considered (sizeOf f (c .cdb)) (c .dataOut)); medium = p .medium }
+
+-- the bytes that it returns
+unfoldable pub fetched : Form → Move → Pool → Call → List ℕ
+fetched f Read p c = readBlocks p (addressOf f (c .cdb)) (sizeOf f (c .cdb))
+fetched f Write p c = []
+fetched f Unmap p c = []

@@ -1,0 +1,1 @@
+// Bytes in lent buffers: laid over, copied, cleared.

@@ -1,0 +1,651 @@
+/*
+ * differential.c - runs random histories over the proved library (prefix
+ * ridge_) and the second program (prefix second_) and compares everything that
+ * either may write, to the last byte.
+ *
+ *   differential CALLS SEED
+ *
+ * Both get equal copies of every lent buffer, with random guard bytes on both
+ * sides. After each call: the answers and the returned counts are equal, so is
+ * every byte of every buffer, and what 01 says of all calls holds (a refusal
+ * changes nothing, sense is written for the answers 1 to 8 only, data-in not
+ * past the returned bytes, CDB, data-out and guards never).
+ *
+ * Exit status: 0 no difference and every answer met often enough; 1 a
+ * difference, which is printed; 2 an answer or command too rare, bad usage.
+ */
+
+#include <inttypes.h>
+#include <stdio.h>
+#include <stdlib.h>
+#include <string.h>
+
+#include "../second/second.h"
+#include "generate.h"
+
+enum {
+    GUARD = 64,         /* bytes before and after each buffer */
+    EXTRA_SLOTS = 2,    /* so that 129 slots can be lent */
+    STATE_ROOM = 8 * (RIDGE_STATE_WORDS + 4),
+    OWNERS_ROOM = 8 * (RIDGE_SLOTS + EXTRA_SLOTS),
+    MEDIUM_ROOM = RIDGE_BLOCK_BYTES * (RIDGE_SLOTS + EXTRA_SLOTS)
+};
+
+enum part { STATE, OWNERS, MEDIUM, CDB, DATA_OUT, DATA_IN, SENSE, PARTS };
+
+static const char *const part_names[PARTS] = {
+    "state", "owners", "medium", "cdb", "data-out", "data-in", "sense"};
+
+static const size_t part_rooms[PARTS] = {STATE_ROOM, OWNERS_ROOM, MEDIUM_ROOM,
+                                         CDB_ROOM,   DATA_ROOM,   DATA_ROOM,
+                                         SENSE_ROOM};
+
+enum {
+    WORLD_BYTES = STATE_ROOM + OWNERS_ROOM + MEDIUM_ROOM + CDB_ROOM +
+                  2 * DATA_ROOM + SENSE_ROOM + PARTS * 2 * GUARD
+};
+
+/* All that is lent to one library, and what it answered. */
+struct world {
+    _Alignas(16) uint8_t bytes[WORLD_BYTES];
+    uint64_t answer;
+    uint64_t returned;
+};
+
+/* What one call lends: bytes of each part, and who sends it. */
+struct lending {
+    size_t bytes[PARTS];
+    uint64_t nexus;
+};
+
+struct figures {
+    uint64_t calls;
+    uint64_t fresh;
+    uint64_t damaged;
+    uint64_t answers[16];
+    uint64_t by_code[256];
+    uint64_t good_by_code[256];
+    uint64_t good_actions[32];
+};
+
+struct run {
+    struct random random;
+    uint64_t seed;
+    struct store store;
+    struct request request;
+    struct lending lending;
+    struct world before;
+    struct world ridge;
+    struct world second;
+    struct figures figures;
+};
+
+/* ---- The worlds ---- */
+
+/* Where a part begins; its guard lies before it. */
+static uint8_t *part_of(struct world *world, enum part part)
+{
+    size_t at = GUARD;
+
+    for (size_t lower = 0; lower < part; lower++)
+        at += part_rooms[lower] + 2 * GUARD;
+    return world->bytes + at;
+}
+
+static uint64_t *words_of(struct world *world, enum part part)
+{
+    return (uint64_t *)(void *)part_of(world, part);
+}
+
+/* Random bytes in a part and its guards, as far as the call may see them. */
+static void fill_part(struct run *run, enum part part)
+{
+    random_fill(&run->random, part_of(&run->before, part) - GUARD,
+                run->lending.bytes[part] + 2 * GUARD);
+}
+
+static void put_part(struct run *run, enum part part, const void *bytes,
+                     size_t count)
+{
+    if (count > run->lending.bytes[part])
+        count = run->lending.bytes[part];
+    memcpy(part_of(&run->before, part), bytes, count);
+}
+
+/* Both libraries get what stands in `before`. */
+static void copy_worlds(struct run *run)
+{
+    for (enum part part = 0; part < PARTS; part++) {
+        const uint8_t *from = part_of(&run->before, part) - GUARD;
+        size_t count = run->lending.bytes[part] + 2 * GUARD;
+
+        memcpy(part_of(&run->ridge, part) - GUARD, from, count);
+        memcpy(part_of(&run->second, part) - GUARD, from, count);
+    }
+    run->ridge.returned = run->second.returned = random_word(&run->random);
+}
+
+/* ---- Reports ---- */
+
+static void print_hex(const char *name, const uint8_t *bytes, size_t count)
+{
+    enum { SHOWN = 64 };
+
+    printf("  %s (%zu bytes)", name, count);
+    for (size_t index = 0; index < count && index < SHOWN; index++)
+        printf("%s%02X", index % 8 == 0 ? " " : "", bytes[index]);
+    printf("%s\n", count > SHOWN ? " ..." : "");
+}
+
+static void print_words(const char *name, const uint64_t *words, size_t count)
+{
+    printf("  %s (%zu words)", name, count);
+    for (size_t index = 0; index < count; index++)
+        printf(" %" PRIX64, words[index]);
+    printf("\n");
+}
+
+static void print_outcome(struct run *run, const char *name,
+                          struct world *world)
+{
+    printf("%s: answer %" PRIu64 ", returned %" PRIu64 "\n", name,
+           world->answer, world->returned);
+    print_words("state", words_of(world, STATE), run->lending.bytes[STATE] / 8);
+    print_words("owners", words_of(world, OWNERS),
+                run->lending.bytes[OWNERS] / 8);
+    print_hex("data-in", part_of(world, DATA_IN), run->lending.bytes[DATA_IN]);
+    print_hex("sense", part_of(world, SENSE), run->lending.bytes[SENSE]);
+}
+
+/* Prints what is needed to find the call again, and ends the program. */
+static void fail(struct run *run, const char *what)
+{
+    printf("difference: %s\n", what);
+    printf("seed %" PRIu64 ", call number %" PRIu64 ", fresh store %" PRIu64
+           "\n",
+           run->seed, run->figures.calls, run->figures.fresh);
+    printf("the call: nexus %" PRIu64 ", medium of %zu bytes\n",
+           run->lending.nexus, run->lending.bytes[MEDIUM]);
+    print_hex("cdb", part_of(&run->before, CDB), run->lending.bytes[CDB]);
+    print_hex("data-out", part_of(&run->before, DATA_OUT),
+              run->lending.bytes[DATA_OUT]);
+    run->before.answer = run->before.returned = 0;
+    print_outcome(run, "before", &run->before);
+    print_outcome(run, "ridge", &run->ridge);
+    print_outcome(run, "second", &run->second);
+    exit(1);
+}
+
+static void fail_part(struct run *run, const char *what, enum part part,
+                      size_t at)
+{
+    char text[160];
+
+    snprintf(text, sizeof text, "%s: %s byte %td", what, part_names[part],
+             (ptrdiff_t)at - GUARD);
+    fail(run, text);
+}
+
+/* ---- Comparing ---- */
+
+/* The first place where the two differ, or count. */
+static size_t first_difference(const uint8_t *left, const uint8_t *right,
+                               size_t count)
+{
+    size_t at = 0;
+
+    if (memcmp(left, right, count) == 0)
+        return count;
+    while (left[at] == right[at])
+        at++;
+    return at;
+}
+
+static void compare_libraries(struct run *run)
+{
+    if (run->ridge.answer != run->second.answer)
+        fail(run, "the answers differ");
+    if (run->ridge.returned != run->second.returned)
+        fail(run, "the returned counts differ");
+    for (enum part part = 0; part < PARTS; part++) {
+        size_t count = run->lending.bytes[part] + 2 * GUARD;
+        size_t at = first_difference(part_of(&run->ridge, part) - GUARD,
+                                     part_of(&run->second, part) - GUARD,
+                                     count);
+
+        if (at != count)
+            fail_part(run, "the libraries differ", part, at);
+    }
+}
+
+/* The part is as before, save its bytes from 0 to `writable` - 1. */
+static void hold_unchanged(struct run *run, enum part part, size_t writable)
+{
+    const uint8_t *was = part_of(&run->before, part) - GUARD;
+    const uint8_t *is = part_of(&run->ridge, part) - GUARD;
+    size_t count = run->lending.bytes[part] + 2 * GUARD;
+    size_t from = GUARD + writable;
+    size_t at = first_difference(was, is, GUARD);
+
+    if (at != GUARD)
+        fail_part(run, "changed before its start", part, at);
+    at = from + first_difference(was + from, is + from, count - from);
+    if (at != count)
+        fail_part(run, "changed against 01", part, at);
+}
+
+/* What 01 says of every call, whichever command it is. */
+static void hold_rules(struct run *run)
+{
+    bool good = run->ridge.answer == RIDGE_GOOD;
+    bool has_sense = run->ridge.answer >= RIDGE_CODE_NOT_LISTED &&
+                     run->ridge.answer <= RIDGE_POOL_FULL;
+
+    if (!good && run->ridge.returned != 0)
+        fail(run, "bytes returned on a refusal");
+    if (run->ridge.returned > run->lending.bytes[DATA_IN])
+        fail(run, "more bytes returned than lent");
+    for (enum part part = STATE; part <= MEDIUM; part++)
+        hold_unchanged(run, part, good ? run->lending.bytes[part] : 0);
+    hold_unchanged(run, CDB, 0);
+    hold_unchanged(run, DATA_OUT, 0);
+    hold_unchanged(run, DATA_IN, (size_t)run->ridge.returned);
+    hold_unchanged(run, SENSE, has_sense ? RIDGE_SENSE_BYTES : 0);
+}
+
+/* ---- Making calls ---- */
+
+static void lend_request(struct run *run)
+{
+    const struct request *request = &run->request;
+    struct lending *lending = &run->lending;
+
+    lending->nexus = request->nexus;
+    lending->bytes[STATE] = 8 * RIDGE_STATE_WORDS;
+    lending->bytes[OWNERS] = 8 * run->store.slots;
+    lending->bytes[MEDIUM] = RIDGE_BLOCK_BYTES * run->store.slots;
+    lending->bytes[CDB] = request->cdb_bytes;
+    lending->bytes[DATA_OUT] = request->data_out_bytes;
+    lending->bytes[DATA_IN] = request->data_in_bytes;
+    lending->bytes[SENSE] = request->sense_bytes;
+}
+
+/* Lends another number of words, slots or medium bytes than the store has. */
+static void damage_sizes(struct run *run)
+{
+    size_t *bytes = run->lending.bytes;
+
+    switch (random_below(&run->random, 4)) {
+    case 0:
+        bytes[STATE] = 8 * (size_t)RANDOM_CHOICE(&run->random, 0, 1, 19, 21);
+        break;
+    case 1:
+        bytes[OWNERS] = 8 * (size_t)RANDOM_CHOICE(&run->random, 0, 129);
+        bytes[MEDIUM] = bytes[OWNERS] / 8 * RIDGE_BLOCK_BYTES;
+        break;
+    case 2:
+        bytes[MEDIUM] = (size_t)RANDOM_CHOICE(
+            &run->random, 0, bytes[MEDIUM] - 1, bytes[MEDIUM] + 1,
+            bytes[MEDIUM] - 512, bytes[MEDIUM] + 512);
+        break;
+    default:
+        bytes[OWNERS] += 8;
+        break;
+    }
+}
+
+static void damage_map(struct run *run, uint64_t *owners)
+{
+    size_t slot = (size_t)random_below(&run->random, run->store.slots);
+    size_t other = (size_t)random_below(&run->random, run->store.slots);
+    uint64_t capacity = run->store.state[RIDGE_WORD_CAPACITY];
+
+    if (other == slot || random_percent(&run->random, 40)) {
+        owners[slot] = RANDOM_CHOICE(&run->random, capacity + 1, UINT64_MAX,
+                                     (UINT64_C(1) << 32) + capacity);
+        return;
+    }
+    if (owners[slot] == 0)
+        owners[slot] = capacity;
+    owners[other] = owners[slot];
+}
+
+/* Places: a nexus too large, one used twice, one where no key is. */
+static void damage_places(struct run *run, uint64_t *state)
+{
+    size_t place = (size_t)random_below(&run->random, RIDGE_PLACES);
+    size_t other = (size_t)random_below(&run->random, RIDGE_PLACES);
+    uint64_t *nexus = state + RIDGE_WORD_NEXUS;
+    uint64_t *key = state + RIDGE_WORD_KEY;
+
+    switch (random_below(&run->random, 4)) {
+    case 0:
+        nexus[place] = RANDOM_CHOICE(&run->random, 16, 255,
+                                     256 + nexus[place],
+                                     (UINT64_C(1) << 32) + nexus[place]);
+        break;
+    case 1:
+        nexus[place] = nexus[other];
+        key[place] = key[place] == 0 ? 5 : key[place];
+        break;
+    case 2:
+        nexus[place] = 1 + random_below(&run->random, 15);
+        key[place] = 0;
+        break;
+    default:
+        key[place] = 0;
+        break;
+    }
+}
+
+/* Reservation: a type not known, a holder that is none, nobody registered. */
+static void damage_reservation(struct run *run, uint64_t *state)
+{
+    uint64_t *type = state + RIDGE_WORD_TYPE;
+    uint64_t *holder = state + RIDGE_WORD_HOLDER;
+
+    switch (random_below(&run->random, 5)) {
+    case 0:
+        *type = RANDOM_CHOICE(&run->random, 2, 4, 9, 15, 255, 256 + *type,
+                              (UINT64_C(1) << 32) + *type, UINT64_MAX);
+        break;
+    case 1:
+        *holder = RANDOM_CHOICE(&run->random, random_below(&run->random, 16),
+                                16, 255, 256 + *holder,
+                                (UINT64_C(1) << 32) + *holder);
+        break;
+    case 2:
+        *type = 0;
+        break;
+    case 3:
+        *type = RANDOM_CHOICE(&run->random, 1, 3, 5, 6, 7, 8);
+        break;
+    default:
+        memset(state + RIDGE_WORD_NEXUS, 0, 16 * sizeof *state);
+        *type = RANDOM_CHOICE(&run->random, 1, 3, 5, 6, 7, 8);
+        *holder = 0;
+        break;
+    }
+}
+
+/* Spoils the lent store; some of these leave it valid, which is as well. */
+static void damage_store(struct run *run)
+{
+    uint64_t *state = words_of(&run->before, STATE);
+
+    switch (random_below(&run->random, 5)) {
+    case 0:
+        damage_map(run, words_of(&run->before, OWNERS));
+        break;
+    case 1:
+        damage_places(run, state);
+        break;
+    case 2:
+        damage_reservation(run, state);
+        break;
+    case 3:
+        state[RIDGE_WORD_GENERATION] = RANDOM_CHOICE(
+            &run->random, UINT64_C(1) << 32, (UINT64_C(1) << 32) + 7,
+            UINT64_MAX, UINT32_MAX);
+        break;
+    default:
+        state[RIDGE_WORD_CAPACITY] = RANDOM_CHOICE(
+            &run->random, 0, RIDGE_CAPACITY_LAST + 1, UINT64_MAX,
+            UINT64_C(1) << 63, RIDGE_CAPACITY_LAST);
+        break;
+    }
+}
+
+/* Fills `before`; returns whether the store is lent as it is. */
+static bool prepare(struct run *run)
+{
+    const struct request *request = &run->request;
+    bool whole = !random_percent(&run->random, 6);
+    bool sizes = !whole && random_percent(&run->random, 25);
+
+    lend_request(run);
+    if (sizes)
+        damage_sizes(run);
+    for (enum part part = 0; part < PARTS; part++)
+        if (part != MEDIUM || run->lending.bytes[MEDIUM] !=
+                                  RIDGE_BLOCK_BYTES * run->store.slots)
+            fill_part(run, part);
+    put_part(run, STATE, run->store.state, sizeof run->store.state);
+    put_part(run, OWNERS, run->store.owners, 8 * run->store.slots);
+    put_part(run, MEDIUM, run->store.medium,
+             RIDGE_BLOCK_BYTES * run->store.slots);
+    put_part(run, CDB, request->cdb, request->cdb_bytes);
+    put_part(run, DATA_OUT, request->data_out, request->data_out_bytes);
+    if (!whole && !sizes)
+        damage_store(run);
+    run->figures.damaged += whole ? 0 : 1;
+    return whole;
+}
+
+typedef uint64_t execute_function(
+    uint64_t *state, size_t state_words, uint64_t *owners, size_t slots,
+    uint8_t *medium, size_t medium_bytes, uint64_t nexus, const uint8_t *cdb,
+    size_t cdb_bytes, const uint8_t *data_out, size_t data_out_bytes,
+    uint8_t *data_in, size_t data_in_bytes, uint8_t *sense, size_t sense_bytes,
+    uint64_t *returned);
+
+static void execute(const struct lending *lending, struct world *world,
+                    execute_function *function)
+{
+    const size_t *bytes = lending->bytes;
+
+    world->answer = function(
+        words_of(world, STATE), bytes[STATE] / 8, words_of(world, OWNERS),
+        bytes[OWNERS] / 8, part_of(world, MEDIUM), bytes[MEDIUM],
+        lending->nexus, part_of(world, CDB), bytes[CDB],
+        part_of(world, DATA_OUT), bytes[DATA_OUT], part_of(world, DATA_IN),
+        bytes[DATA_IN], part_of(world, SENSE), bytes[SENSE],
+        &world->returned);
+}
+
+static void count_call(struct run *run)
+{
+    struct figures *figures = &run->figures;
+    uint8_t code = run->lending.bytes[CDB] == 0 ? 0xFF : run->request.cdb[0];
+    bool good = run->second.answer == RIDGE_GOOD;
+
+    figures->answers[run->second.answer & 15]++;
+    figures->by_code[code]++;
+    figures->good_by_code[code] += good ? 1 : 0;
+    if (code == 0x5F && good)
+        figures->good_actions[run->request.cdb[1] & 0x1F]++;
+}
+
+static void one_call(struct run *run)
+{
+    bool whole;
+
+    if (random_percent(&run->random, 4))
+        generate_rare(&run->random, &run->store, &run->request);
+    else
+        generate_request(&run->random, &run->store,
+                         generate_nexus(&run->random, run->store.state),
+                         &run->request);
+    whole = prepare(run);
+    copy_worlds(run);
+    run->figures.calls++;
+    execute(&run->lending, &run->ridge, ridge_execute);
+    execute(&run->lending, &run->second, second_execute);
+    compare_libraries(run);
+    hold_rules(run);
+    count_call(run);
+    if (!whole)
+        return;
+    memcpy(run->store.state, part_of(&run->second, STATE),
+           sizeof run->store.state);
+    memcpy(run->store.owners, part_of(&run->second, OWNERS),
+           8 * run->store.slots);
+    memcpy(run->store.medium, part_of(&run->second, MEDIUM),
+           RIDGE_BLOCK_BYTES * run->store.slots);
+}
+
+/* ---- Fresh stores ---- */
+
+/* Bounds for fresh: good ones mostly, else one of them is not. */
+static uint64_t fresh_bounds(struct run *run)
+{
+    uint64_t capacity = generate_capacity(&run->random);
+    struct lending *lending = &run->lending;
+
+    memset(lending, 0, sizeof *lending);
+    lending->bytes[STATE] = 8 * RIDGE_STATE_WORDS;
+    lending->bytes[OWNERS] = 8 * generate_slots(&run->random);
+    switch (random_below(&run->random, 12)) {
+    case 0:
+        return RANDOM_CHOICE(&run->random, 0, RIDGE_CAPACITY_LAST + 1,
+                             UINT64_C(1) << 63, UINT64_MAX);
+    case 1:
+        lending->bytes[OWNERS] = 8 * (size_t)RANDOM_CHOICE(&run->random, 0, 129);
+        break;
+    case 2:
+        lending->bytes[STATE] =
+            8 * (size_t)RANDOM_CHOICE(&run->random, 0, 19, 21);
+        break;
+    default:
+        break;
+    }
+    return capacity;
+}
+
+/* Makes a fresh store by both libraries; false if they refuse the bounds. */
+static bool fresh_store(struct run *run)
+{
+    uint64_t capacity = fresh_bounds(run);
+
+    for (enum part part = 0; part < PARTS; part++)
+        fill_part(run, part);
+    copy_worlds(run);
+    run->ridge.returned = run->second.returned = 0;
+    run->figures.fresh++;
+    run->ridge.answer = ridge_fresh(
+        capacity, words_of(&run->ridge, STATE), run->lending.bytes[STATE] / 8,
+        words_of(&run->ridge, OWNERS), run->lending.bytes[OWNERS] / 8);
+    run->second.answer = second_fresh(
+        capacity, words_of(&run->second, STATE), run->lending.bytes[STATE] / 8,
+        words_of(&run->second, OWNERS), run->lending.bytes[OWNERS] / 8);
+    compare_libraries(run);
+    hold_rules(run);
+    if (run->second.answer != RIDGE_GOOD)
+        return false;
+    run->store.slots = run->lending.bytes[OWNERS] / 8;
+    memcpy(run->store.state, part_of(&run->second, STATE),
+           sizeof run->store.state);
+    memcpy(run->store.owners, part_of(&run->second, OWNERS),
+           8 * run->store.slots);
+    random_fill(&run->random, run->store.medium,
+                RIDGE_BLOCK_BYTES * run->store.slots);
+    return true;
+}
+
+/* ---- Figures at the end ---- */
+
+struct row {
+    const char *name;
+    uint8_t code;
+};
+
+static const struct row rows[] = {
+    {"TEST UNIT READY", 0x00},    {"INQUIRY", 0x12},
+    {"READ CAPACITY(10)", 0x25},  {"READ CAPACITY(16)", 0x9E},
+    {"READ(10)", 0x28},           {"READ(16)", 0x88},
+    {"WRITE(10)", 0x2A},          {"WRITE(16)", 0x8A},
+    {"UNMAP", 0x42},              {"RESERVE IN", 0x5E},
+    {"RESERVE OUT", 0x5F},
+};
+
+static bool often_enough(const char *name, uint64_t count, uint64_t floor)
+{
+    if (count >= floor)
+        return true;
+    printf("too rare: %s, %" PRIu64 " times, floor %" PRIu64 "\n", name, count,
+           floor);
+    return false;
+}
+
+static bool print_answers(const struct figures *figures, uint64_t floor)
+{
+    bool enough = true;
+
+    for (unsigned answer = 0; answer <= RIDGE_BUFFER_SHORT; answer++) {
+        char name[32];
+
+        if (answer == 9)
+            continue;
+        snprintf(name, sizeof name, "answer %u", answer);
+        printf("%s: %" PRIu64 "\n", name, figures->answers[answer]);
+        enough &= often_enough(name, figures->answers[answer], floor);
+    }
+    return enough;
+}
+
+static bool print_commands(const struct figures *figures, uint64_t floor)
+{
+    static const uint8_t actions[] = {0, 1, 2, 3, 4, 6};
+    uint64_t listed = 0;
+    bool enough = true;
+
+    for (size_t index = 0; index < sizeof rows / sizeof *rows; index++) {
+        uint8_t code = rows[index].code;
+
+        printf("%s: %" PRIu64 " calls, %" PRIu64 " good\n", rows[index].name,
+               figures->by_code[code], figures->good_by_code[code]);
+        listed += figures->by_code[code];
+        enough &= often_enough(rows[index].name, figures->good_by_code[code],
+                               floor);
+    }
+    printf("other codes or none: %" PRIu64 " calls\n",
+           figures->calls - listed);
+    printf("RESERVE OUT good by action:");
+    for (size_t index = 0; index < sizeof actions; index++)
+        printf(" %u: %" PRIu64, actions[index],
+               figures->good_actions[actions[index]]);
+    printf("\n");
+    for (size_t index = 0; index < sizeof actions; index++)
+        enough &= often_enough("an action of RESERVE OUT",
+                               figures->good_actions[actions[index]], floor);
+    return enough;
+}
+
+static void run_calls(struct run *run, uint64_t calls)
+{
+    uint64_t left = 0;
+
+    while (run->figures.calls < calls) {
+        if (left == 0) {
+            left = 1 + random_below(&run->random, 100);
+            if (random_percent(&run->random, 70) || !fresh_store(run))
+                generate_store(&run->random, &run->store);
+        }
+        one_call(run);
+        left--;
+    }
+}
+
+int main(int count, char **words)
+{
+    static struct run run;
+    uint64_t calls = count > 1 ? strtoull(words[1], NULL, 10) : 200000;
+    uint64_t floor;
+    bool enough;
+
+    run.seed = count > 2 ? strtoull(words[2], NULL, 10) : 20260101;
+    run.random.state = run.seed;
+    if (count > 3 || calls == 0) {
+        fprintf(stderr, "usage: differential [CALLS [SEED]]\n");
+        return 2;
+    }
+    run_calls(&run, calls);
+    floor = calls / 1000 > 0 ? calls / 1000 : 1;
+    enough = print_answers(&run.figures, floor);
+    enough &= print_commands(&run.figures, floor);
+    printf("%" PRIu64 " calls, %" PRIu64 " fresh stores, %" PRIu64
+           " calls on damaged stores, seed %" PRIu64 ": no difference\n",
+           run.figures.calls, run.figures.fresh, run.figures.damaged,
+           run.seed);
+    return enough ? 0 : 2;
+}

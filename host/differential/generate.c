@@ -1,0 +1,636 @@
+/*
+ * generate.c - random stores and random calls; generate.h says what for.
+ *
+ * A command's generator fills the CDB with random bytes first and then sets the
+ * fields that count, so fields to be ignored take all values. Sizes of buffers
+ * fall on the exact need, one below and one above it more often than elsewhere.
+ */
+
+#include "generate.h"
+
+#include <string.h>
+
+/* ---- Random numbers: splitmix64 ---- */
+
+uint64_t random_word(struct random *random)
+{
+    uint64_t word = random->state += UINT64_C(0x9E3779B97F4A7C15);
+
+    word = (word ^ word >> 30) * UINT64_C(0xBF58476D1CE4E5B9);
+    word = (word ^ word >> 27) * UINT64_C(0x94D049BB133111EB);
+    return word ^ word >> 31;
+}
+
+uint64_t random_below(struct random *random, uint64_t bound)
+{
+    return random_word(random) % bound;
+}
+
+bool random_percent(struct random *random, unsigned percent)
+{
+    return random_below(random, 100) < percent;
+}
+
+void random_fill(struct random *random, uint8_t *bytes, size_t count)
+{
+    while (count > 0) {
+        uint64_t word = random_word(random);
+        size_t part = count < sizeof word ? count : sizeof word;
+
+        memcpy(bytes, &word, part);
+        bytes += part;
+        count -= part;
+    }
+}
+
+uint64_t random_choice(struct random *random, const uint64_t *words,
+                       size_t count)
+{
+    return words[random_below(random, count)];
+}
+
+static void put(uint8_t *bytes, size_t count, uint64_t value)
+{
+    for (size_t index = count; index > 0; index--) {
+        bytes[index - 1] = (uint8_t)value;
+        value >>= 8;
+    }
+}
+
+/* ---- Stores ---- */
+
+uint64_t generate_capacity(struct random *random)
+{
+    uint64_t kind = random_below(random, 100);
+
+    if (kind < 55)
+        return 1 + random_below(random, 40);
+    if (kind < 70)
+        return 100 + random_below(random, 200);
+    if (kind < 80)
+        return (UINT64_C(1) << 32) + random_below(random, 5) - 2;
+    if (kind < 90)
+        return RIDGE_CAPACITY_LAST - random_below(random, 3);
+    return 1 + random_below(random, RIDGE_CAPACITY_LAST);
+}
+
+size_t generate_slots(struct random *random)
+{
+    uint64_t kind = random_below(random, 100);
+
+    if (kind < 75)
+        return (size_t)(1 + random_below(random, 8));
+    if (kind < 94)
+        return (size_t)(9 + random_below(random, 24));
+    return (size_t)(RIDGE_SLOTS - random_below(random, 3));
+}
+
+/* Mostly near one of the ends, so that ranges and mappings meet. */
+static uint64_t address_within(struct random *random, uint64_t capacity)
+{
+    uint64_t near = random_below(random, capacity < 160 ? capacity : 160);
+
+    switch (random_below(random, 8)) {
+    case 0:
+        return random_below(random, capacity);
+    case 1:
+    case 2:
+        return capacity - 1 - near;
+    case 3:
+        return (UINT64_C(0xFFFFFFF8) + random_below(random, 16)) % capacity;
+    default:
+        return near;
+    }
+}
+
+static bool is_owner(const struct store *store, uint64_t owner)
+{
+    for (size_t slot = 0; slot < store->slots; slot++) {
+        if (store->owners[slot] == owner)
+            return true;
+    }
+    return false;
+}
+
+void generate_map(struct random *random, struct store *store)
+{
+    unsigned fill = (unsigned)random_below(random, 101);
+
+    memset(store->owners, 0, sizeof store->owners);
+    random_fill(random, store->medium, store->slots * RIDGE_BLOCK_BYTES);
+    for (size_t slot = 0; slot < store->slots; slot++) {
+        uint64_t owner =
+            1 + address_within(random, store->state[RIDGE_WORD_CAPACITY]);
+
+        if (random_percent(random, fill) && !is_owner(store, owner))
+            store->owners[slot] = owner;
+    }
+}
+
+/* Few different keys, so that some nexuses share one. */
+static uint64_t generate_key(struct random *random)
+{
+    if (random_percent(random, 90))
+        return RANDOM_CHOICE(random, 1, 2, 3, UINT64_C(0x0102030405060708),
+                             UINT64_C(0x8000000000000000), UINT64_MAX,
+                             UINT64_C(0x100000000), 256);
+    return random_word(random) | 1;
+}
+
+uint64_t key_of(const uint64_t *state, uint64_t nexus)
+{
+    for (size_t place = 0; place < RIDGE_PLACES; place++) {
+        if (state[RIDGE_WORD_KEY + place] != 0 &&
+            state[RIDGE_WORD_NEXUS + place] == nexus)
+            return state[RIDGE_WORD_KEY + place];
+    }
+    return 0;
+}
+
+void generate_registrations(struct random *random, uint64_t *state)
+{
+    unsigned fill = (unsigned)RANDOM_CHOICE(random, 0, 30, 60, 90, 100, 100);
+
+    memset(state + RIDGE_WORD_TYPE, 0,
+           (RIDGE_STATE_WORDS - RIDGE_WORD_TYPE) * sizeof *state);
+    for (size_t place = 0; place < RIDGE_PLACES; place++) {
+        uint64_t nexus = random_below(random, RIDGE_NEXUS_LAST + 1);
+
+        while (key_of(state, nexus) != 0)
+            nexus = (nexus + 1) % (RIDGE_NEXUS_LAST + 1);
+        if (random_percent(random, fill)) {
+            state[RIDGE_WORD_NEXUS + place] = nexus;
+            state[RIDGE_WORD_KEY + place] = generate_key(random);
+        }
+    }
+}
+
+/* A used place, or RIDGE_PLACES if there is none. */
+static size_t used_place(struct random *random, const uint64_t *state)
+{
+    size_t first = (size_t)random_below(random, RIDGE_PLACES);
+
+    for (size_t step = 0; step < RIDGE_PLACES; step++) {
+        size_t place = (first + step) % RIDGE_PLACES;
+
+        if (state[RIDGE_WORD_KEY + place] != 0)
+            return place;
+    }
+    return RIDGE_PLACES;
+}
+
+void generate_reservation(struct random *random, uint64_t *state, uint64_t type)
+{
+    size_t place = used_place(random, state);
+
+    if (place == RIDGE_PLACES)
+        return;
+    state[RIDGE_WORD_TYPE] = type;
+    state[RIDGE_WORD_HOLDER] =
+        type == 7 || type == 8 ? 0 : state[RIDGE_WORD_NEXUS + place];
+}
+
+void generate_store(struct random *random, struct store *store)
+{
+    store->slots = generate_slots(random);
+    store->state[RIDGE_WORD_CAPACITY] = generate_capacity(random);
+    store->state[RIDGE_WORD_GENERATION] =
+        RANDOM_CHOICE(random, 0, 7, UINT32_MAX - 1, UINT32_MAX, 0x01020304);
+    generate_registrations(random, store->state);
+    if (random_percent(random, 70))
+        generate_reservation(random, store->state,
+                             RANDOM_CHOICE(random, 1, 3, 5, 6, 7, 8));
+    generate_map(random, store);
+}
+
+/* ---- Parts of a call ---- */
+
+uint64_t generate_nexus(struct random *random, const uint64_t *state)
+{
+    size_t place = used_place(random, state);
+
+    if (random_percent(random, 2))
+        return RANDOM_CHOICE(random, 16, 17, 255, 256, UINT64_C(1) << 32,
+                             UINT64_MAX);
+    if (place != RIDGE_PLACES && random_percent(random, 55))
+        return state[RIDGE_WORD_NEXUS + place];
+    return random_below(random, RIDGE_NEXUS_LAST + 1);
+}
+
+/* A size of a buffer of which `need` bytes will be used. */
+static size_t generate_size(struct random *random, uint64_t need)
+{
+    uint64_t size = need;
+
+    switch (random_below(random, 16)) {
+    case 0:
+        size = need == 0 ? 0 : need - 1;
+        break;
+    case 1:
+        size = need + 1;
+        break;
+    case 2:
+        size = need + random_below(random, 100);
+        break;
+    case 3:
+        size = random_percent(random, 30) ? random_below(random, need + 1)
+                                          : need;
+        break;
+    default:
+        break;
+    }
+    return (size_t)(size > DATA_ROOM ? DATA_ROOM : size);
+}
+
+static uint64_t generate_address(struct random *random,
+                                 const struct store *store)
+{
+    uint64_t capacity = store->state[RIDGE_WORD_CAPACITY];
+
+    switch (random_below(random, 32)) {
+    case 0:
+        return capacity + random_below(random, 3);
+    case 1:
+        return UINT64_MAX - random_below(random, 130);
+    case 2:
+        return random_word(random);
+    case 3:
+        return UINT64_C(0xFFFFFFF8) + random_below(random, 16);
+    default:
+        return address_within(random, capacity);
+    }
+}
+
+/* A count of blocks from that address, mostly few and mostly in range. */
+static uint64_t generate_count(struct random *random, const struct store *store,
+                               uint64_t address)
+{
+    uint64_t left = store->state[RIDGE_WORD_CAPACITY] - address;
+    uint64_t count = random_below(random, 6);
+
+    switch (random_below(random, 48)) {
+    case 0:
+        return RANDOM_CHOICE(random, 127, 128, 129, 130);
+    case 1:
+        return random_below(random, 131);
+    case 2:
+        return left + 1;
+    case 3:
+        return left;
+    case 4:
+        return RANDOM_CHOICE(random, 255, 256, 257, 384, 0xFFFF, 0x10000,
+                             0x10001, 0x01000001, UINT32_MAX);
+    default:
+        return left != 0 && left < count ? left : count;
+    }
+}
+
+/* ---- The commands ---- */
+
+static void start_cdb(struct random *random, struct request *request,
+                      uint8_t code, size_t bytes)
+{
+    if (random_percent(random, 60))
+        random_fill(random, request->cdb, sizeof request->cdb);
+    else
+        memset(request->cdb, 0, sizeof request->cdb);
+    request->cdb[0] = code;
+    request->cdb_bytes = bytes;
+    request->data_out_bytes = (size_t)random_below(random, 3) * 8;
+    request->data_in_bytes = (size_t)random_below(random, 3) * 8;
+    request->cdb[bytes - 1] &= 0xFB;
+    if (random_percent(random, 2))
+        request->cdb[bytes - 1] |= 0x04;
+}
+
+static void make_test_unit_ready(struct random *random,
+                                 const struct store *store,
+                                 struct request *request)
+{
+    (void)store;
+    start_cdb(random, request, 0x00, 6);
+}
+
+static void make_inquiry(struct random *random, const struct store *store,
+                         struct request *request)
+{
+    uint64_t allocation = RANDOM_CHOICE(random, 0, 1, 5, 8, 35, 36, 37, 96,
+                                        255, 256, 292, 0xFFFF);
+
+    (void)store;
+    start_cdb(random, request, 0x12, 6);
+    request->cdb[1] &= random_percent(random, 6) ? 0xFF : 0xFE;
+    if (!random_percent(random, 6))
+        request->cdb[2] = 0;
+    put(request->cdb + 3, 2, allocation);
+    request->data_in_bytes =
+        generate_size(random, allocation < 36 ? allocation : 36);
+}
+
+static void make_read_capacity_10(struct random *random,
+                                  const struct store *store,
+                                  struct request *request)
+{
+    (void)store;
+    start_cdb(random, request, 0x25, 10);
+    request->data_in_bytes = generate_size(random, 8);
+}
+
+static void make_read_capacity_16(struct random *random,
+                                  const struct store *store,
+                                  struct request *request)
+{
+    uint64_t allocation = RANDOM_CHOICE(random, 0, 1, 8, 14, 15, 31, 32, 33,
+                                        256, 65536, 0x01000008, UINT32_MAX);
+
+    (void)store;
+    start_cdb(random, request, 0x9E, 16);
+    if (!random_percent(random, 6))
+        request->cdb[1] = (uint8_t)((request->cdb[1] & 0xE0) | 0x10);
+    put(request->cdb + 10, 4, allocation);
+    request->data_in_bytes =
+        generate_size(random, allocation < 32 ? allocation : 32);
+}
+
+/* Fields of READ and WRITE; returns the bytes that the blocks take. */
+static uint64_t make_transfer(struct random *random, const struct store *store,
+                              struct request *request, uint8_t code)
+{
+    bool sixteen = code >= 0x80;
+    uint64_t address = generate_address(random, store);
+    uint64_t count = generate_count(random, store, address);
+
+    start_cdb(random, request, code, sixteen ? 16 : 10);
+    if (!random_percent(random, 4))
+        request->cdb[1] &= 0x1F;
+    if (sixteen) {
+        put(request->cdb + 2, 8, address);
+        put(request->cdb + 10, 4, count);
+    } else {
+        put(request->cdb + 2, 4, address);
+        put(request->cdb + 7, 2, count);
+        count &= 0xFFFF;
+    }
+    return (count > 129 ? 1 : count) * RIDGE_BLOCK_BYTES;
+}
+
+static void make_read(struct random *random, const struct store *store,
+                      struct request *request)
+{
+    uint8_t code = random_percent(random, 50) ? 0x28 : 0x88;
+    uint64_t bytes = make_transfer(random, store, request, code);
+
+    request->data_in_bytes = generate_size(random, bytes);
+}
+
+static void make_write(struct random *random, const struct store *store,
+                       struct request *request)
+{
+    uint8_t code = random_percent(random, 50) ? 0x2A : 0x8A;
+    uint64_t bytes = make_transfer(random, store, request, code);
+
+    request->data_out_bytes = generate_size(random, bytes);
+    random_fill(random, request->data_out, request->data_out_bytes);
+}
+
+/* The address of a mapped block at times, so that UNMAP frees something. */
+static uint64_t unmap_address(struct random *random, const struct store *store)
+{
+    uint64_t owner = store->owners[random_below(random, store->slots)];
+
+    if (owner != 0 && random_percent(random, 60))
+        return owner - 1;
+    if (random_percent(random, 92))
+        return address_within(random, store->state[RIDGE_WORD_CAPACITY]);
+    return generate_address(random, store);
+}
+
+static void put_descriptors(struct random *random, const struct store *store,
+                            struct request *request, size_t descriptors)
+{
+    uint64_t capacity = store->state[RIDGE_WORD_CAPACITY];
+
+    for (size_t index = 0; index < descriptors; index++) {
+        uint8_t *bytes = request->data_out + 8 + 16 * index;
+        uint64_t address = unmap_address(random, store);
+        uint64_t count = generate_count(random, store, address);
+
+        if (address < capacity && count > capacity - address &&
+            random_percent(random, 80))
+            count = capacity - address;
+        put(bytes, 8, address);
+        put(bytes + 8, 4, count);
+    }
+}
+
+static void make_unmap(struct random *random, const struct store *store,
+                       struct request *request)
+{
+    size_t descriptors = (size_t)RANDOM_CHOICE(random, 0, 1, 1, 1, 2, 2, 3, 4,
+                                               5, 15, 16, 16, 17, 18, 33);
+    uint64_t named = 16 * descriptors;
+    uint64_t length = 8 + 16 * descriptors;
+
+    start_cdb(random, request, 0x42, 10);
+    if (!random_percent(random, 4))
+        request->cdb[1] &= 0xFE;
+    if (random_percent(random, 12))
+        named = RANDOM_CHOICE(random, 0, 15, 16, 17, 31, 256, 271, 272, 0xFFFF,
+                              named + 15, named + 256);
+    if (random_percent(random, 12))
+        length = RANDOM_CHOICE(random, 0, 1, 7, 8, 9, 23, 24, 25, 263, 264,
+                               279, 280, length + 15, length + 16, 256);
+    random_fill(random, request->data_out, 8 + 16 * 40);
+    put(request->data_out + 2, 2, named);
+    put_descriptors(random, store, request, descriptors);
+    put(request->cdb + 7, 2, length);
+    request->data_out_bytes = generate_size(random, length);
+}
+
+static void make_reserve_in(struct random *random, const struct store *store,
+                            struct request *request)
+{
+    uint64_t available = 8;
+    uint64_t allocation;
+
+    for (size_t place = 0; place < RIDGE_PLACES; place++)
+        available += store->state[RIDGE_WORD_KEY + place] != 0 ? 8 : 0;
+    start_cdb(random, request, 0x5E, 10);
+    request->cdb[1] &= random_percent(random, 5) ? 0xFF : 0xE1;
+    if ((request->cdb[1] & 1) != 0)
+        available = store->state[RIDGE_WORD_TYPE] != 0 ? 24 : 8;
+    allocation = RANDOM_CHOICE(random, 0, 1, 7, 8, 9, 16, 23, 24, 25, 72,
+                               available - 1, available, available + 1, 255,
+                               256, 0xFFFF);
+    put(request->cdb + 7, 2, allocation);
+    request->data_in_bytes = generate_size(
+        random, allocation < available ? allocation : available);
+}
+
+/* A reservation type, often the one that stands, seldom none of the six. */
+static uint8_t generate_type(struct random *random, const uint64_t *state)
+{
+    if (random_percent(random, 40) && state[RIDGE_WORD_TYPE] != 0)
+        return (uint8_t)state[RIDGE_WORD_TYPE];
+    if (random_percent(random, 94))
+        return (uint8_t)RANDOM_CHOICE(random, 1, 3, 5, 6, 7, 8);
+    return (uint8_t)random_below(random, 256);
+}
+
+/* A service action key: one that somebody has, a new one, or 0. */
+static uint64_t generate_action_key(struct random *random,
+                                    const uint64_t *state)
+{
+    size_t place = used_place(random, state);
+
+    if (random_percent(random, 12))
+        return 0;
+    if (place == RIDGE_PLACES || random_percent(random, 40))
+        return generate_key(random);
+    if (state[RIDGE_WORD_TYPE] != 0 && random_percent(random, 40))
+        return key_of(state, state[RIDGE_WORD_HOLDER]);
+    return state[RIDGE_WORD_KEY + place];
+}
+
+static void make_reserve_out(struct random *random, const struct store *store,
+                             struct request *request)
+{
+    uint64_t action = RANDOM_CHOICE(random, 0, 0, 0, 0, 1, 1, 1, 2, 2, 2, 4, 4,
+                                    4, 6, 6, 6, 3, 5);
+    uint64_t key = key_of(store->state, request->nexus);
+
+    start_cdb(random, request, 0x5F, 10);
+    if (action == 5)
+        action = random_below(random, 32);
+    if (action == 3 && random_percent(random, 50))
+        action = 0;
+    request->cdb[1] = (uint8_t)((request->cdb[1] & 0xE0) | action);
+    request->cdb[2] = generate_type(random, store->state);
+    put(request->cdb + 5, 4, random_percent(random, 96)
+                                 ? 24
+                                 : RANDOM_CHOICE(random, 0, 1, 23, 25, 32, 256,
+                                                 280, 65560, 0x01000018,
+                                                 UINT32_MAX));
+    random_fill(random, request->data_out, 40);
+    put(request->data_out, 8,
+        random_percent(random, 90) ? key : generate_action_key(random,
+                                                               store->state));
+    put(request->data_out + 8, 8, generate_action_key(random, store->state));
+    if (!random_percent(random, 5))
+        request->data_out[20] &= 0xF2;
+    request->data_out_bytes = generate_size(random, 24);
+    if (request->data_out_bytes < 24 && random_percent(random, 60))
+        request->data_out_bytes = 24;
+}
+
+static void make_other_code(struct random *random, const struct store *store,
+                            struct request *request)
+{
+    (void)store;
+    start_cdb(random, request, (uint8_t)random_word(random),
+              (size_t)RANDOM_CHOICE(random, 1, 6, 10, 12, 16, 17));
+}
+
+typedef void make_function(struct random *random, const struct store *store,
+                           struct request *request);
+
+/* How often each command is made, in parts of a hundred. */
+static const struct {
+    unsigned share;
+    make_function *make;
+} makers[] = {
+    {3, make_test_unit_ready},  {5, make_inquiry},
+    {3, make_read_capacity_10}, {4, make_read_capacity_16},
+    {18, make_read},            {21, make_write},
+    {13, make_unmap},           {8, make_reserve_in},
+    {23, make_reserve_out},     {2, make_other_code},
+};
+
+static void make_any(struct random *random, const struct store *store,
+                     struct request *request)
+{
+    unsigned part = (unsigned)random_below(random, 100);
+    size_t index = 0;
+
+    while (part >= makers[index].share) {
+        part -= makers[index].share;
+        index++;
+    }
+    makers[index].make(random, store, request);
+}
+
+/* Spoils one thing of the call, but not its nexus. */
+static void damage(struct random *random, struct request *request)
+{
+    size_t at;
+
+    switch (random_below(random, 5)) {
+    case 0:
+        at = (size_t)random_below(random, 16);
+        request->cdb[at] ^= (uint8_t)(1 << random_below(random, 8));
+        break;
+    case 1:
+        request->cdb_bytes = (size_t)RANDOM_CHOICE(
+            random, 0, 1, 2, 5, 6, 7, 9, 10, 11, 12, 15, 16, 17, 32);
+        break;
+    case 2:
+        at = (size_t)random_below(random, 40);
+        request->data_out[at] ^= (uint8_t)(1 << random_below(random, 8));
+        break;
+    case 3:
+        request->sense_bytes = (size_t)random_below(random, RIDGE_SENSE_BYTES);
+        break;
+    default:
+        request->data_out_bytes = (size_t)random_below(random, 600);
+        request->data_in_bytes = (size_t)random_below(random, 600);
+        break;
+    }
+}
+
+static void finish_request(struct random *random, struct request *request)
+{
+    request->sense_bytes =
+        (size_t)RANDOM_CHOICE(random, 18, 18, 18, 19, 20, 32, 252);
+    if (random_percent(random, 7))
+        damage(random, request);
+}
+
+void generate_request(struct random *random, const struct store *store,
+                      uint64_t nexus, struct request *request)
+{
+    request->nexus = nexus;
+    make_any(random, store, request);
+    finish_request(random, request);
+}
+
+void generate_reserve_out(struct random *random, const struct store *store,
+                          uint64_t nexus, struct request *request)
+{
+    request->nexus = nexus;
+    make_reserve_out(random, store, request);
+    finish_request(random, request);
+    request->cdb[0] = 0x5F;
+    if (request->cdb_bytes == 0)
+        request->cdb_bytes = 10;
+}
+
+/*
+ * Answer 6 wants all places used and a stranger that registers, 7 a holder that
+ * names another type: chance alone seldom gives either.
+ */
+void generate_rare(struct random *random, const struct store *store,
+                   struct request *request)
+{
+    uint64_t type = store->state[RIDGE_WORD_TYPE];
+    bool release = type != 0 && random_percent(random, 50);
+    uint64_t nexus = random_below(random, RIDGE_NEXUS_LAST + 1);
+
+    if (release && type >= 7)
+        nexus = store->state[RIDGE_WORD_NEXUS +
+                             used_place(random, store->state)];
+    else if (release)
+        nexus = store->state[RIDGE_WORD_HOLDER];
+    generate_reserve_out(random, store, nexus, request);
+    request->cdb[1] = (uint8_t)(release ? 2 : RANDOM_CHOICE(random, 0, 6));
+    put(request->data_out, 8, key_of(store->state, nexus));
+}

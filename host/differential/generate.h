@@ -1,0 +1,104 @@
+/*
+ * generate.h - random stores and random calls for the tests that run the
+ * libraries: mostly sensible ones, so that histories get somewhere, with a
+ * damaged fraction, so that every refusal is met.
+ *
+ * Everything follows from the seed: the same seed gives the same calls on
+ * every machine.
+ */
+
+#ifndef GENERATE_H
+#define GENERATE_H
+
+#include <stdbool.h>
+#include <stddef.h>
+#include <stdint.h>
+
+#include "../include/ridge.h"
+
+enum {
+    CDB_ROOM = 64,
+    /* Room for 129 blocks, one more than a command may move, and some. */
+    DATA_ROOM = 130 * RIDGE_BLOCK_BYTES,
+    SENSE_ROOM = 256
+};
+
+struct random {
+    uint64_t state;
+};
+
+/* A store as ridge.h describes it, with room for the largest. */
+struct store {
+    uint64_t state[RIDGE_STATE_WORDS];
+    uint64_t owners[RIDGE_SLOTS];
+    size_t slots;
+    uint8_t medium[RIDGE_SLOTS * RIDGE_BLOCK_BYTES];
+};
+
+/* One call, without the store it is made on. */
+struct request {
+    uint64_t nexus;
+    size_t cdb_bytes;
+    size_t data_out_bytes;
+    size_t data_in_bytes;
+    size_t sense_bytes;
+    uint8_t cdb[CDB_ROOM];
+    uint8_t data_out[DATA_ROOM];
+};
+
+uint64_t random_word(struct random *random);
+
+/* A number from 0 to bound - 1; bound is not 0. */
+uint64_t random_below(struct random *random, uint64_t bound);
+
+/* True in the given percentage of cases. */
+bool random_percent(struct random *random, unsigned percent);
+
+void random_fill(struct random *random, uint8_t *bytes, size_t count);
+
+/* One of the listed words. */
+uint64_t random_choice(struct random *random, const uint64_t *words,
+                       size_t count);
+
+#define RANDOM_CHOICE(random, ...)                                   \
+    random_choice(random, (const uint64_t[]){__VA_ARGS__},           \
+                  sizeof((const uint64_t[]){__VA_ARGS__}) / sizeof(uint64_t))
+
+/* A capacity within bounds, small or at an edge of the field widths. */
+uint64_t generate_capacity(struct random *random);
+
+/* A number of slots within bounds, mostly few. */
+size_t generate_slots(struct random *random);
+
+/* Gives the store a random valid map and random medium bytes. */
+void generate_map(struct random *random, struct store *store);
+
+/* Gives the state random registrations, and no reservation. */
+void generate_registrations(struct random *random, uint64_t *state);
+
+/* Puts a reservation of that type, if anybody is registered to hold it. */
+void generate_reservation(struct random *random, uint64_t *state,
+                          uint64_t type);
+
+/* A random valid store. */
+void generate_store(struct random *random, struct store *store);
+
+/* A nexus number, mostly one that is registered; sometimes above 15. */
+uint64_t generate_nexus(struct random *random, const uint64_t *state);
+
+/* A call of any command by that nexus, mostly sensible on that store. */
+void generate_request(struct random *random, const struct store *store,
+                      uint64_t nexus, struct request *request);
+
+/* As generate_request, but the operation code is 5Fh. */
+void generate_reserve_out(struct random *random, const struct store *store,
+                          uint64_t nexus, struct request *request);
+
+/* A reservation-out call, by a nexus chosen to meet answers 6 and 7. */
+void generate_rare(struct random *random, const struct store *store,
+                   struct request *request);
+
+/* The key of a nexus, 0 if it is not registered. */
+uint64_t key_of(const uint64_t *state, uint64_t nexus);
+
+#endif

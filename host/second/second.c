@@ -1,0 +1,854 @@
+/*
+ * second.c - a second implementation of the unit, written from the product
+ * paper alone and independent of the proved library. The tests run both on the
+ * same calls; the speed figures take it as their baseline.
+ *
+ * Plain C11: no heap, no globals but constant tables. The order of the tests in
+ * each function is the paper's order, since the first that fails is the answer.
+ */
+
+#include "second.h"
+
+#include <stdbool.h>
+#include <string.h>
+
+#include "../include/ridge.h"
+
+enum { NO_PLACE = RIDGE_PLACES, NO_SLOT = RIDGE_SLOTS };
+
+/* Reservation types; RESERVATION_NONE stands in the type word for no one. */
+enum {
+    RESERVATION_NONE = 0,
+    WRITE_EXCLUSIVE = 1,
+    EXCLUSIVE_ACCESS = 3,
+    WRITE_EXCLUSIVE_REGISTRANTS = 5,
+    EXCLUSIVE_ACCESS_REGISTRANTS = 6,
+    WRITE_EXCLUSIVE_ALL = 7,
+    EXCLUSIVE_ACCESS_ALL = 8
+};
+
+/* One call: what was lent, once the bounds are known to hold. */
+struct call {
+    uint64_t *state;
+    uint64_t *owners;
+    size_t slots;
+    uint8_t *medium;
+    uint64_t nexus;
+    const uint8_t *cdb;
+    const uint8_t *data_out;
+    size_t data_out_bytes;
+    uint8_t *data_in;
+    size_t data_in_bytes;
+    uint64_t *returned;
+};
+
+/* ---- Numbers in buffers, most significant byte first ---- */
+
+static uint64_t load(const uint8_t *bytes, size_t count)
+{
+    uint64_t value = 0;
+
+    for (size_t index = 0; index < count; index++)
+        value = value << 8 | bytes[index];
+    return value;
+}
+
+static void store(uint8_t *bytes, size_t count, uint64_t value)
+{
+    for (size_t index = count; index > 0; index--) {
+        bytes[index - 1] = (uint8_t)value;
+        value >>= 8;
+    }
+}
+
+static uint64_t smaller(uint64_t left, uint64_t right)
+{
+    return left < right ? left : right;
+}
+
+/* ---- Validity of a state ---- */
+
+static bool is_type(uint64_t type)
+{
+    switch (type) {
+    case WRITE_EXCLUSIVE:
+    case EXCLUSIVE_ACCESS:
+    case WRITE_EXCLUSIVE_REGISTRANTS:
+    case EXCLUSIVE_ACCESS_REGISTRANTS:
+    case WRITE_EXCLUSIVE_ALL:
+    case EXCLUSIVE_ACCESS_ALL:
+        return true;
+    default:
+        return false;
+    }
+}
+
+/* Under these types every registered nexus is a holder. */
+static bool is_for_all(uint64_t type)
+{
+    return type == WRITE_EXCLUSIVE_ALL || type == EXCLUSIVE_ACCESS_ALL;
+}
+
+static bool is_for_registrants(uint64_t type)
+{
+    return type == WRITE_EXCLUSIVE_REGISTRANTS ||
+           type == EXCLUSIVE_ACCESS_REGISTRANTS;
+}
+
+static bool is_exclusive_access(uint64_t type)
+{
+    return type == EXCLUSIVE_ACCESS || type == EXCLUSIVE_ACCESS_REGISTRANTS ||
+           type == EXCLUSIVE_ACCESS_ALL;
+}
+
+/* The place of a registered nexus, or NO_PLACE. */
+static size_t place_of(const uint64_t *state, uint64_t nexus)
+{
+    for (size_t place = 0; place < RIDGE_PLACES; place++) {
+        if (state[RIDGE_WORD_KEY + place] != 0 &&
+            state[RIDGE_WORD_NEXUS + place] == nexus)
+            return place;
+    }
+    return NO_PLACE;
+}
+
+static bool is_registered(const uint64_t *state, uint64_t nexus)
+{
+    return place_of(state, nexus) != NO_PLACE;
+}
+
+static size_t registrations(const uint64_t *state)
+{
+    size_t count = 0;
+
+    for (size_t place = 0; place < RIDGE_PLACES; place++) {
+        if (state[RIDGE_WORD_KEY + place] != 0)
+            count++;
+    }
+    return count;
+}
+
+static bool valid_map(const uint64_t *owners, size_t slots, uint64_t capacity)
+{
+    for (size_t slot = 0; slot < slots; slot++) {
+        if (owners[slot] > capacity)
+            return false;
+        for (size_t higher = slot + 1; higher < slots; higher++) {
+            if (owners[slot] != 0 && owners[slot] == owners[higher])
+                return false;
+        }
+    }
+    return true;
+}
+
+static bool valid_places(const uint64_t *state)
+{
+    for (size_t place = 0; place < RIDGE_PLACES; place++) {
+        uint64_t nexus = state[RIDGE_WORD_NEXUS + place];
+
+        if (state[RIDGE_WORD_KEY + place] == 0) {
+            if (nexus != 0)
+                return false;
+        } else if (nexus > RIDGE_NEXUS_LAST ||
+                   place_of(state, nexus) != place) {
+            return false;
+        }
+    }
+    return true;
+}
+
+static bool valid_reservation(const uint64_t *state)
+{
+    uint64_t type = state[RIDGE_WORD_TYPE];
+    uint64_t holder = state[RIDGE_WORD_HOLDER];
+
+    if (type == RESERVATION_NONE)
+        return holder == 0;
+    if (!is_type(type))
+        return false;
+    if (is_for_all(type))
+        return holder == 0 && registrations(state) > 0;
+    return is_registered(state, holder);
+}
+
+static bool valid_bounds(uint64_t capacity, size_t state_words, size_t slots)
+{
+    return state_words == RIDGE_STATE_WORDS && capacity >= 1 &&
+           capacity <= RIDGE_CAPACITY_LAST && slots >= 1 &&
+           slots <= RIDGE_SLOTS;
+}
+
+static bool valid_state(const struct call *call)
+{
+    return call->state[RIDGE_WORD_GENERATION] <= UINT32_MAX &&
+           valid_places(call->state) && valid_reservation(call->state) &&
+           valid_map(call->owners, call->slots,
+                     call->state[RIDGE_WORD_CAPACITY]);
+}
+
+/* ---- Who conflicts ---- */
+
+static bool is_holder(const struct call *call)
+{
+    uint64_t type = call->state[RIDGE_WORD_TYPE];
+
+    if (type == RESERVATION_NONE)
+        return false;
+    if (is_for_all(type))
+        return is_registered(call->state, call->nexus);
+    return call->state[RIDGE_WORD_HOLDER] == call->nexus;
+}
+
+static bool is_blocked(const struct call *call)
+{
+    uint64_t type = call->state[RIDGE_WORD_TYPE];
+
+    if (type == RESERVATION_NONE || is_holder(call))
+        return false;
+    return !(is_for_registrants(type) &&
+             is_registered(call->state, call->nexus));
+}
+
+static bool write_conflicts(const struct call *call)
+{
+    return is_blocked(call);
+}
+
+static bool read_conflicts(const struct call *call)
+{
+    return is_blocked(call) &&
+           is_exclusive_access(call->state[RIDGE_WORD_TYPE]);
+}
+
+/* ---- Blocks ---- */
+
+struct range {
+    uint64_t address;
+    uint64_t count;
+};
+
+/* The sum is not formed: near 2^64 it would wrap to a small one. */
+static bool range_fits(const struct call *call, struct range range)
+{
+    uint64_t capacity = call->state[RIDGE_WORD_CAPACITY];
+
+    return range.address <= capacity &&
+           range.count <= capacity - range.address;
+}
+
+static bool in_range(uint64_t owner, struct range range)
+{
+    return owner != 0 && owner - 1 >= range.address &&
+           owner - 1 - range.address < range.count;
+}
+
+/*
+ * Reads the range of a READ or WRITE: address bytes 2-5 and count 7-8 in ten
+ * byte CDBs, 2-9 and 10-13 in those of sixteen. False for a CDB field that 01
+ * refuses.
+ */
+static bool transfer_range(const uint8_t *cdb, bool sixteen,
+                           struct range *range)
+{
+    range->address = sixteen ? load(cdb + 2, 8) : load(cdb + 2, 4);
+    range->count = sixteen ? load(cdb + 10, 4) : load(cdb + 7, 2);
+    return (cdb[1] & 0xE0) == 0 && range->count <= RIDGE_TRANSFER_BLOCKS;
+}
+
+/* One pass over the owners: where each block of the range lies. */
+static size_t index_range(const struct call *call, struct range range,
+                          uint8_t slot_of[RIDGE_TRANSFER_BLOCKS])
+{
+    size_t mapped = 0;
+
+    memset(slot_of, NO_SLOT, range.count);
+    for (size_t slot = 0; slot < call->slots; slot++) {
+        if (in_range(call->owners[slot], range)) {
+            slot_of[call->owners[slot] - 1 - range.address] = (uint8_t)slot;
+            mapped++;
+        }
+    }
+    return mapped;
+}
+
+static uint8_t *slot_bytes(const struct call *call, size_t slot)
+{
+    return call->medium + slot * RIDGE_BLOCK_BYTES;
+}
+
+static uint64_t read_blocks(struct call *call, bool sixteen)
+{
+    struct range range;
+    uint8_t slot_of[RIDGE_TRANSFER_BLOCKS];
+    size_t bytes;
+
+    if (!transfer_range(call->cdb, sixteen, &range))
+        return RIDGE_CDB_FIELD;
+    if (read_conflicts(call))
+        return RIDGE_CONFLICT;
+    if (!range_fits(call, range))
+        return RIDGE_ADDRESS_RANGE;
+    bytes = (size_t)range.count * RIDGE_BLOCK_BYTES;
+    if (call->data_in_bytes < bytes)
+        return RIDGE_BUFFER_SHORT;
+    index_range(call, range, slot_of);
+    for (size_t index = 0; index < range.count; index++) {
+        uint8_t *target = call->data_in + index * RIDGE_BLOCK_BYTES;
+
+        if (slot_of[index] == NO_SLOT)
+            memset(target, 0, RIDGE_BLOCK_BYTES);
+        else
+            memcpy(target, slot_bytes(call, slot_of[index]),
+                   RIDGE_BLOCK_BYTES);
+    }
+    *call->returned = bytes;
+    return RIDGE_GOOD;
+}
+
+static size_t free_slots(const struct call *call)
+{
+    size_t count = 0;
+
+    for (size_t slot = 0; slot < call->slots; slot++) {
+        if (call->owners[slot] == 0)
+            count++;
+    }
+    return count;
+}
+
+/*
+ * Moves the blocks once there is room for all of them. The search for a free
+ * slot goes on where the last one ended: slots below it are taken by then.
+ */
+static void place_blocks(struct call *call, struct range range,
+                         const uint8_t slot_of[RIDGE_TRANSFER_BLOCKS])
+{
+    size_t lowest_free = 0;
+
+    for (size_t index = 0; index < range.count; index++) {
+        size_t slot = slot_of[index];
+
+        if (slot == NO_SLOT) {
+            while (call->owners[lowest_free] != 0)
+                lowest_free++;
+            slot = lowest_free;
+            call->owners[slot] = range.address + index + 1;
+        }
+        memcpy(slot_bytes(call, slot),
+               call->data_out + index * RIDGE_BLOCK_BYTES, RIDGE_BLOCK_BYTES);
+    }
+}
+
+static uint64_t write_blocks(struct call *call, bool sixteen)
+{
+    struct range range;
+    uint8_t slot_of[RIDGE_TRANSFER_BLOCKS];
+    size_t mapped;
+
+    if (!transfer_range(call->cdb, sixteen, &range))
+        return RIDGE_CDB_FIELD;
+    if (write_conflicts(call))
+        return RIDGE_CONFLICT;
+    if (!range_fits(call, range))
+        return RIDGE_ADDRESS_RANGE;
+    if (call->data_out_bytes < range.count * RIDGE_BLOCK_BYTES)
+        return RIDGE_BUFFER_SHORT;
+    mapped = index_range(call, range, slot_of);
+    if (range.count - mapped > free_slots(call))
+        return RIDGE_POOL_FULL;
+    place_blocks(call, range, slot_of);
+    return RIDGE_GOOD;
+}
+
+static uint64_t read_10(struct call *call)
+{
+    return read_blocks(call, false);
+}
+
+static uint64_t read_16(struct call *call)
+{
+    return read_blocks(call, true);
+}
+
+static uint64_t write_10(struct call *call)
+{
+    return write_blocks(call, false);
+}
+
+static uint64_t write_16(struct call *call)
+{
+    return write_blocks(call, true);
+}
+
+/* ---- UNMAP ---- */
+
+static struct range descriptor(const struct call *call, size_t index)
+{
+    const uint8_t *bytes = call->data_out + 8 + 16 * index;
+    struct range range = {load(bytes, 8), load(bytes + 8, 4)};
+
+    return range;
+}
+
+static void unmap_range(struct call *call, struct range range)
+{
+    for (size_t slot = 0; slot < call->slots; slot++) {
+        if (in_range(call->owners[slot], range))
+            call->owners[slot] = 0;
+    }
+}
+
+static uint64_t unmap(struct call *call)
+{
+    uint64_t length = load(call->cdb + 7, 2);
+    size_t considered;
+
+    if ((call->cdb[1] & 0x01) != 0)
+        return RIDGE_CDB_FIELD;
+    if (write_conflicts(call))
+        return RIDGE_CONFLICT;
+    if (length == 0)
+        return RIDGE_GOOD;
+    if (length < 8)
+        return RIDGE_LIST_LENGTH;
+    if (call->data_out_bytes < length)
+        return RIDGE_BUFFER_SHORT;
+    considered = (size_t)smaller(load(call->data_out + 2, 2), length - 8) / 16;
+    if (considered > RIDGE_DESCRIPTORS)
+        return RIDGE_LIST_FIELD;
+    for (size_t index = 0; index < considered; index++) {
+        if (!range_fits(call, descriptor(call, index)))
+            return RIDGE_ADDRESS_RANGE;
+    }
+    for (size_t index = 0; index < considered; index++)
+        unmap_range(call, descriptor(call, index));
+    return RIDGE_GOOD;
+}
+
+/* ---- Parameter data ---- */
+
+/* Returns the first min(allocation, available) bytes. */
+static uint64_t give(struct call *call, const uint8_t *bytes, size_t available,
+                     uint64_t allocation)
+{
+    size_t count = (size_t)smaller(allocation, available);
+
+    if (call->data_in_bytes < count)
+        return RIDGE_BUFFER_SHORT;
+    memcpy(call->data_in, bytes, count);
+    *call->returned = count;
+    return RIDGE_GOOD;
+}
+
+static uint64_t test_unit_ready(struct call *call)
+{
+    (void)call;
+    return RIDGE_GOOD;
+}
+
+static uint64_t inquiry(struct call *call)
+{
+    static const uint8_t data[36] =
+        "\x00\x00\x06\x02\x1F\x00\x00\x00"
+        "RIDGE   "
+        "LOAD LOG STORE  "
+        "0100";
+
+    if ((call->cdb[1] & 0x01) != 0 || call->cdb[2] != 0)
+        return RIDGE_CDB_FIELD;
+    return give(call, data, sizeof data, load(call->cdb + 3, 2));
+}
+
+static uint64_t read_capacity_10(struct call *call)
+{
+    uint8_t data[8];
+    uint64_t last = call->state[RIDGE_WORD_CAPACITY] - 1;
+
+    store(data, 4, smaller(last, UINT32_MAX));
+    store(data + 4, 4, RIDGE_BLOCK_BYTES);
+    return give(call, data, sizeof data, sizeof data);
+}
+
+static uint64_t read_capacity_16(struct call *call)
+{
+    uint8_t data[32] = {0};
+
+    if ((call->cdb[1] & 0x1F) != 0x10)
+        return RIDGE_CDB_FIELD;
+    store(data, 8, call->state[RIDGE_WORD_CAPACITY] - 1);
+    store(data + 8, 4, RIDGE_BLOCK_BYTES);
+    data[14] = 0xC0;
+    return give(call, data, sizeof data, load(call->cdb + 10, 4));
+}
+
+/* ---- PERSISTENT RESERVE IN ---- */
+
+static size_t key_list(const uint64_t *state, uint8_t data[8 + 8 * RIDGE_PLACES])
+{
+    size_t length = 0;
+
+    for (size_t place = 0; place < RIDGE_PLACES; place++) {
+        if (state[RIDGE_WORD_KEY + place] != 0) {
+            store(data + 8 + length, 8, state[RIDGE_WORD_KEY + place]);
+            length += 8;
+        }
+    }
+    store(data, 4, state[RIDGE_WORD_GENERATION]);
+    store(data + 4, 4, length);
+    return 8 + length;
+}
+
+static uint64_t holder_key(const uint64_t *state)
+{
+    if (is_for_all(state[RIDGE_WORD_TYPE]))
+        return 0;
+    return state[RIDGE_WORD_KEY + place_of(state, state[RIDGE_WORD_HOLDER])];
+}
+
+static size_t reservation_list(const uint64_t *state, uint8_t data[24])
+{
+    memset(data, 0, 24);
+    store(data, 4, state[RIDGE_WORD_GENERATION]);
+    if (state[RIDGE_WORD_TYPE] == RESERVATION_NONE)
+        return 8;
+    store(data + 4, 4, 16);
+    store(data + 8, 8, holder_key(state));
+    data[21] = (uint8_t)state[RIDGE_WORD_TYPE];
+    return 24;
+}
+
+static uint64_t reserve_in(struct call *call)
+{
+    uint8_t data[8 + 8 * RIDGE_PLACES];
+    uint64_t allocation = load(call->cdb + 7, 2);
+
+    switch (call->cdb[1] & 0x1F) {
+    case 0:
+        return give(call, data, key_list(call->state, data), allocation);
+    case 1:
+        return give(call, data, reservation_list(call->state, data),
+                    allocation);
+    default:
+        return RIDGE_CDB_FIELD;
+    }
+}
+
+/* ---- PERSISTENT RESERVE OUT ---- */
+
+/* What a service action works on; the sender's place may be NO_PLACE. */
+struct order {
+    uint64_t type;
+    uint64_t key;
+    uint64_t action_key;
+    size_t place;
+};
+
+enum action {
+    REGISTER = 0,
+    RESERVE = 1,
+    RELEASE = 2,
+    CLEAR = 3,
+    PREEMPT = 4,
+    REGISTER_AND_IGNORE = 6
+};
+
+static void raise_generation(struct call *call)
+{
+    call->state[RIDGE_WORD_GENERATION] =
+        (uint32_t)(call->state[RIDGE_WORD_GENERATION] + 1);
+}
+
+static void end_reservation(struct call *call)
+{
+    call->state[RIDGE_WORD_TYPE] = RESERVATION_NONE;
+    call->state[RIDGE_WORD_HOLDER] = 0;
+}
+
+static void make_reservation(struct call *call, uint64_t type)
+{
+    call->state[RIDGE_WORD_TYPE] = type;
+    call->state[RIDGE_WORD_HOLDER] = is_for_all(type) ? 0 : call->nexus;
+}
+
+static void empty_place(struct call *call, size_t place)
+{
+    call->state[RIDGE_WORD_NEXUS + place] = 0;
+    call->state[RIDGE_WORD_KEY + place] = 0;
+}
+
+/* Ends the reservation if its holder, or the last of all holders, is gone. */
+static void end_if_unheld(struct call *call)
+{
+    if (!valid_reservation(call->state))
+        end_reservation(call);
+}
+
+static size_t lowest_free_place(const uint64_t *state)
+{
+    size_t place = 0;
+
+    while (place < RIDGE_PLACES && state[RIDGE_WORD_KEY + place] != 0)
+        place++;
+    return place;
+}
+
+static uint64_t register_new(struct call *call, uint64_t key)
+{
+    size_t place = lowest_free_place(call->state);
+
+    if (key == 0)
+        return RIDGE_GOOD;
+    if (place == NO_PLACE)
+        return RIDGE_PLACES_USED;
+    call->state[RIDGE_WORD_NEXUS + place] = call->nexus;
+    call->state[RIDGE_WORD_KEY + place] = key;
+    raise_generation(call);
+    return RIDGE_GOOD;
+}
+
+static uint64_t register_key(struct call *call, const struct order *order)
+{
+    if (order->place == NO_PLACE)
+        return register_new(call, order->action_key);
+    if (order->action_key != 0) {
+        call->state[RIDGE_WORD_KEY + order->place] = order->action_key;
+    } else {
+        empty_place(call, order->place);
+        end_if_unheld(call);
+    }
+    raise_generation(call);
+    return RIDGE_GOOD;
+}
+
+static uint64_t reserve(struct call *call, const struct order *order)
+{
+    if (call->state[RIDGE_WORD_TYPE] == RESERVATION_NONE) {
+        make_reservation(call, order->type);
+        return RIDGE_GOOD;
+    }
+    if (is_holder(call) && call->state[RIDGE_WORD_TYPE] == order->type)
+        return RIDGE_GOOD;
+    return RIDGE_CONFLICT;
+}
+
+static uint64_t release(struct call *call, const struct order *order)
+{
+    if (!is_holder(call))
+        return RIDGE_GOOD;
+    if (call->state[RIDGE_WORD_TYPE] != order->type)
+        return RIDGE_RELEASE_TYPE;
+    end_reservation(call);
+    return RIDGE_GOOD;
+}
+
+static uint64_t clear(struct call *call)
+{
+    for (size_t place = 0; place < RIDGE_PLACES; place++)
+        empty_place(call, place);
+    end_reservation(call);
+    raise_generation(call);
+    return RIDGE_GOOD;
+}
+
+static bool somebody_has(const uint64_t *state, uint64_t key)
+{
+    for (size_t place = 0; place < RIDGE_PLACES; place++) {
+        if (state[RIDGE_WORD_KEY + place] == key)
+            return true;
+    }
+    return false;
+}
+
+/* Removes all with the key, save the place spared (NO_PLACE spares none). */
+static void remove_key(struct call *call, uint64_t key, size_t spared)
+{
+    for (size_t place = 0; place < RIDGE_PLACES; place++) {
+        if (place != spared && call->state[RIDGE_WORD_KEY + place] == key)
+            empty_place(call, place);
+    }
+}
+
+static uint64_t preempt(struct call *call, const struct order *order)
+{
+    uint64_t held = call->state[RIDGE_WORD_TYPE];
+
+    if (order->action_key == 0)
+        return RIDGE_LIST_FIELD;
+    if (!somebody_has(call->state, order->action_key))
+        return RIDGE_CONFLICT;
+    if (held != RESERVATION_NONE && !is_for_all(held) &&
+        holder_key(call->state) == order->action_key) {
+        remove_key(call, order->action_key, order->place);
+        make_reservation(call, order->type);
+    } else {
+        remove_key(call, order->action_key, NO_PLACE);
+        end_if_unheld(call);
+    }
+    raise_generation(call);
+    return RIDGE_GOOD;
+}
+
+/* A registered sender gives its key; in REGISTER an unregistered one gives 0. */
+static bool key_is_right(const struct call *call, const struct order *order,
+                         enum action action)
+{
+    if (action == REGISTER_AND_IGNORE)
+        return true;
+    if (order->place == NO_PLACE)
+        return action == REGISTER && order->key == 0;
+    return order->key == call->state[RIDGE_WORD_KEY + order->place];
+}
+
+static uint64_t act(struct call *call, const struct order *order,
+                    enum action action)
+{
+    if (!key_is_right(call, order, action))
+        return RIDGE_CONFLICT;
+    switch (action) {
+    case RESERVE:
+        return reserve(call, order);
+    case RELEASE:
+        return release(call, order);
+    case CLEAR:
+        return clear(call);
+    case PREEMPT:
+        return preempt(call, order);
+    default:
+        return register_key(call, order);
+    }
+}
+
+/* False for an action not served, or a scope or type not known to it. */
+static bool action_fields(const uint8_t *cdb)
+{
+    switch (cdb[1] & 0x1F) {
+    case REGISTER:
+    case CLEAR:
+    case REGISTER_AND_IGNORE:
+        return true;
+    case RESERVE:
+    case RELEASE:
+    case PREEMPT:
+        return is_type(cdb[2]);
+    default:
+        return false;
+    }
+}
+
+static uint64_t reserve_out(struct call *call)
+{
+    enum { LIST_BYTES = 24, FLAGS_AT = 20, FLAGS_REFUSED = 0x0D };
+    enum action action = call->cdb[1] & 0x1F;
+    struct order order;
+
+    if (!action_fields(call->cdb))
+        return RIDGE_CDB_FIELD;
+    if (load(call->cdb + 5, 4) != LIST_BYTES)
+        return RIDGE_LIST_LENGTH;
+    if (call->data_out_bytes < LIST_BYTES)
+        return RIDGE_BUFFER_SHORT;
+    if ((action == REGISTER || action == REGISTER_AND_IGNORE) &&
+        (call->data_out[FLAGS_AT] & FLAGS_REFUSED) != 0)
+        return RIDGE_LIST_FIELD;
+    order.type = call->cdb[2];
+    order.key = load(call->data_out, 8);
+    order.action_key = load(call->data_out + 8, 8);
+    order.place = place_of(call->state, call->nexus);
+    return act(call, &order, action);
+}
+
+/* ---- The commands ---- */
+
+struct command {
+    uint8_t code;
+    uint8_t cdb_bytes;
+    uint64_t (*serve)(struct call *call);
+};
+
+static const struct command commands[] = {
+    {0x00, 6, test_unit_ready}, {0x12, 6, inquiry},
+    {0x25, 10, read_capacity_10}, {0x28, 10, read_10},
+    {0x2A, 10, write_10},       {0x42, 10, unmap},
+    {0x5E, 10, reserve_in},     {0x5F, 10, reserve_out},
+    {0x88, 16, read_16},        {0x8A, 16, write_16},
+    {0x9E, 16, read_capacity_16},
+};
+
+static const struct command *find_command(uint8_t code)
+{
+    for (size_t index = 0; index < sizeof commands / sizeof *commands;
+         index++) {
+        if (commands[index].code == code)
+            return &commands[index];
+    }
+    return NULL;
+}
+
+/* The CDB's last byte is the control byte; its bit 2 is NACA. */
+static uint64_t dispatch(struct call *call, size_t cdb_bytes)
+{
+    const struct command *command = find_command(call->cdb[0]);
+
+    if (command == NULL)
+        return RIDGE_CODE_NOT_LISTED;
+    if (cdb_bytes != command->cdb_bytes)
+        return RIDGE_UNUSABLE;
+    if ((call->cdb[cdb_bytes - 1] & 0x04) != 0)
+        return RIDGE_CDB_FIELD;
+    return command->serve(call);
+}
+
+/* Fixed format sense data for the answers of status 02h, which are 1 to 8. */
+static void write_sense(uint8_t *sense, uint64_t answer)
+{
+    static const uint8_t codes[9][3] = {
+        {0, 0, 0},          {0x05, 0x20, 0x00}, {0x05, 0x24, 0x00},
+        {0x05, 0x21, 0x00}, {0x05, 0x1A, 0x00}, {0x05, 0x26, 0x00},
+        {0x05, 0x55, 0x04}, {0x05, 0x26, 0x04}, {0x07, 0x27, 0x07},
+    };
+
+    if (answer < RIDGE_CODE_NOT_LISTED || answer > RIDGE_POOL_FULL)
+        return;
+    memset(sense, 0, RIDGE_SENSE_BYTES);
+    sense[0] = 0x70;
+    sense[2] = codes[answer][0];
+    sense[7] = 0x0A;
+    sense[12] = codes[answer][1];
+    sense[13] = codes[answer][2];
+}
+
+uint64_t SECOND_NAME(fresh)(uint64_t capacity, uint64_t *state,
+                            size_t state_words, uint64_t *owners,
+                            size_t slots)
+{
+    if (!valid_bounds(capacity, state_words, slots))
+        return RIDGE_UNUSABLE;
+    memset(state, 0, RIDGE_STATE_WORDS * sizeof *state);
+    memset(owners, 0, slots * sizeof *owners);
+    state[RIDGE_WORD_CAPACITY] = capacity;
+    return RIDGE_GOOD;
+}
+
+uint64_t SECOND_NAME(execute)(
+    uint64_t *state, size_t state_words, uint64_t *owners, size_t slots,
+    uint8_t *medium, size_t medium_bytes, uint64_t nexus, const uint8_t *cdb,
+    size_t cdb_bytes, const uint8_t *data_out, size_t data_out_bytes,
+    uint8_t *data_in, size_t data_in_bytes, uint8_t *sense, size_t sense_bytes,
+    uint64_t *returned)
+{
+    struct call call = {state,    owners,         slots,   medium,
+                        nexus,    cdb,            data_out, data_out_bytes,
+                        data_in,  data_in_bytes,  returned};
+    uint64_t answer;
+
+    *returned = 0;
+    if (nexus > RIDGE_NEXUS_LAST || cdb_bytes == 0 ||
+        sense_bytes < RIDGE_SENSE_BYTES || state_words != RIDGE_STATE_WORDS)
+        return RIDGE_UNUSABLE;
+    if (!valid_bounds(state[RIDGE_WORD_CAPACITY], state_words, slots) ||
+        medium_bytes != slots * RIDGE_BLOCK_BYTES || !valid_state(&call))
+        return RIDGE_UNUSABLE;
+    answer = dispatch(&call, cdb_bytes);
+    write_sense(sense, answer);
+    return answer;
+}

@@ -45,9 +45,10 @@ enum {
                   2 * DATA_ROOM + SENSE_ROOM + PARTS * 2 * GUARD
 };
 
-/* All that is lent to one library, and what it answered. */
+/* All that is lent to one library, and what it answered. The array is of words
+   since words may be read as bytes, but not the other way round. */
 struct world {
-    _Alignas(16) uint8_t bytes[WORLD_BYTES];
+    uint64_t words[WORLD_BYTES / 8];
     uint64_t answer;
     uint64_t returned;
 };
@@ -89,7 +90,7 @@ static uint8_t *part_of(struct world *world, enum part part)
 
     for (size_t lower = 0; lower < part; lower++)
         at += part_rooms[lower] + 2 * GUARD;
-    return world->bytes + at;
+    return (uint8_t *)world->words + at;
 }
 
 static uint64_t *words_of(struct world *world, enum part part)

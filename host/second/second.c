@@ -766,11 +766,16 @@ struct command {
 };
 
 static const struct command commands[] = {
-    {0x00, 6, test_unit_ready}, {0x12, 6, inquiry},
-    {0x25, 10, read_capacity_10}, {0x28, 10, read_10},
-    {0x2A, 10, write_10},       {0x42, 10, unmap},
-    {0x5E, 10, reserve_in},     {0x5F, 10, reserve_out},
-    {0x88, 16, read_16},        {0x8A, 16, write_16},
+    {0x00, 6, test_unit_ready},
+    {0x12, 6, inquiry},
+    {0x25, 10, read_capacity_10},
+    {0x28, 10, read_10},
+    {0x2A, 10, write_10},
+    {0x42, 10, unmap},
+    {0x5E, 10, reserve_in},
+    {0x5F, 10, reserve_out},
+    {0x88, 16, read_16},
+    {0x8A, 16, write_16},
     {0x9E, 16, read_capacity_16},
 };
 
@@ -836,7 +841,7 @@ uint64_t SECOND_NAME(execute)(
     uint8_t *data_in, size_t data_in_bytes, uint8_t *sense, size_t sense_bytes,
     uint64_t *returned)
 {
-    struct call call = {state,    owners,         slots,   medium,
+    struct call call = {state,    owners,         slots,    medium,
                         nexus,    cdb,            data_out, data_out_bytes,
                         data_in,  data_in_bytes,  returned};
     uint64_t answer;

@@ -82,7 +82,7 @@ pub fn no_room() -> Answer
 }
 
 // The number of each answer.
-pub fn number(a: Answer) -> u64
+pub fn number_of(a: Answer) -> u64
     ensures { λ r. ⌜ r ≡ numberOf a ⌝ }
 {
     match a {
@@ -136,7 +136,7 @@ fn is(s: Sense, key: u8, asc: u8, ascq: u8) -> bool
 }
 
 // The status of each answer.
-pub fn status(a: Answer) -> Status
+pub fn status_of(a: Answer) -> Status
     ensures { λ r. ⌜ r ≡ statusOf a ⌝ }
 {
     match a {

@@ -1,2 +1,4 @@
 pub mod Tests
 pub mod BytesLaws
+pub mod BytesTurns
+pub mod FieldLaws

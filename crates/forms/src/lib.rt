@@ -40,3 +40,19 @@ pub struct Form {
     pub address: Span,
     pub size: Span,
 }
+
+// The functions to come, with their contracts:
+//
+// pub fn form_of(cdb: &[u8]) -> Form
+//     ensures { λ r. ⌜ r ≡ formOf (now (cdb .entry)) ⌝ }
+// pub fn address(form: Form, cdb: &[u8]) -> u64
+//     requires { ⌜ Sound form ⌝ }
+//     ensures { λ r. ⌜ r ≡ addressOf form (now (cdb .entry)) ⌝ }
+// pub fn size(form: Form, cdb: &[u8]) -> u64
+//     requires { ⌜ Sound form ⌝ }
+//     ensures { λ r. ⌜ (r ≡ sizeOf form (now (cdb .entry))) × (r < 2 ^ 32) ⌝ }
+// pub fn refusal(form: Form, cdb: &[u8]) -> Answer
+//     requires { ⌜ Sound form ⌝ }
+//     ensures { λ r. ⌜ r ≡ first (formRows form (form .kind) (now (cdb .entry))) ⌝ }
+//
+// Laws of proofs/Table.antt: sound-for : (n a : ℕ) → Sound (formFor n a); sound-of : (cdb : List ℕ) → Sound (formOf cdb).

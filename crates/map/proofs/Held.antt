@@ -1,17 +1,17 @@
--- Which slot has which owner number: laws of `place`, `has`, `free`, `fill`.
+-- Which slot has which owner number: laws of `place`, `has`, `free`, `fill`, `freed`.
 -- Assumes nothing.
 use mathlib.Core.Path.{_≡_, refl, sym, ap, _∙_}
-use mathlib.Core.Bool.{Bool, true, false, not, _||_, cond}
+use mathlib.Core.Bool.{Bool, true, false, not, _&&_, _||_, cond}
 use mathlib.Core.List.{List, [], _∷_}
 use mathlib.Core.Logic.{_≢_}
 use Prim.Native.Nat.{ℕ, zero, suc, _+_, _≤_, _<_}
 use native.Mathlib.Omega.{arith}
 use borrow.Author.Tests.{eqb-true, eqb-false, ne-eqb}
-use lib.Dec.{T, eqb, eqb-refl}
+use lib.Dec.{T, eqb, leb, ltb, eqb-refl, leb→le, nleb→lt, ltb→lt, nltb→le}
 use lib.ListN.{length, getD, set}
 use Rattle.fields.specs.Bytes.{zeros}
 use Rattle.fields.proofs.Tests.{or-l, or-r, nor-l, nor-r, test}
-use Rattle.map.specs.Pool.{place, has, free, fill}
+use Rattle.map.specs.Pool.{place, has, free, fill, freed}
 
 -- two ways, at a test and at an equality, of what is said of the test
 pub by-test : (b : Bool) (P : Bool → Type 0) → (T b → P true) → (T (not b) → P false) → P b
@@ -167,3 +167,12 @@ pub free-zeros : (n : ℕ) → free (zeros n) ≡ n
 unfolding free zeros
 free-zeros zero = refl
 free-zeros (suc n) = let ih = free-zeros n in omega arith
+
+-- ---- an owner number after the n blocks from a on are unmapped: 0 where it names one of them, itself where not
+
+pub freed-ways : (a n y : ℕ) (P : ℕ → Type 0) → (a < y → y ≤ a + n → P 0) → ((a < y → a + n < y) → P y) → P (freed a n y)
+unfolding freed
+freed-ways a n y P f g =
+    by-test (ltb a y) (λ b. P (cond (b && leb y (a + n)) 0 y))
+    (λ s. by-test (leb y (a + n)) (λ b. P (cond b 0 y)) (λ t. f (ltb→lt a y s) (leb→le y (a + n) t)) (λ t. g (λ h. nleb→lt y (a + n) t)))
+    (λ s. g (λ h. let k = nltb→le a y s in absurd (omega arith)))

@@ -1,1 +1,5 @@
 pub mod Held
+pub mod Keeping
+pub mod Writing
+pub mod Unmapping
+pub mod Reading

@@ -1,0 +1,28 @@
+-- The index of a range: the place of each address, so that a read or a write searches the slots once and not once per block.
+-- Assumes nothing.
+use mathlib.Core.Bool.{cond}
+use mathlib.Core.List.{List, [], _∷_}
+use Prim.Native.Nat.{ℕ, zero, suc, _+_, _*_}
+use lib.Dec.{eqb, ltb}
+use lib.ListN.{take, drop}
+use Rattle.fields.specs.Bytes.{part, put, zeros}
+use Rattle.map.specs.Pool.{place}
+
+-- the places of the n addresses from a on; an unmapped one has the number of slots for its place
+unfoldable pub places : List ℕ → ℕ → ℕ → List ℕ
+places owners a zero = []
+places owners a (suc n) = place (suc a) owners ∷ places owners (suc a) n
+
+-- how many places are none
+unfoldable pub missing : ℕ → List ℕ → ℕ
+missing slots [] = 0
+missing slots (i ∷ is) = cond (eqb i slots) 1 0 + missing slots is
+
+-- the bytes at a place
+unfoldable pub slotBytes : List ℕ → ℕ → ℕ → List ℕ
+slotBytes medium slots i = cond (ltb i slots) (part medium (512 * i) 512) (zeros 512)
+
+-- the medium once each block's bytes are at its place
+unfoldable pub putPlaces : List ℕ → List ℕ → List ℕ → List ℕ
+putPlaces [] medium bs = medium
+putPlaces (i ∷ is) medium bs = putPlaces is (put medium (512 * i) (take 512 bs)) (drop 512 bs)

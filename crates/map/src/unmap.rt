@@ -1,0 +1,28 @@
+// Unmapping: by slots, never by blocks, since a range may have 2^32 - 1 of those.
+ghost use mathlib.Core.Path.{_≡_};
+ghost use Prim.Native.Nat.{_+_, _≤_, _^_};
+ghost use Rattle.map.specs.Pool.{freed, unmapOwners};
+use crate::Lba;
+
+// The owner number of a slot once the range is unmapped.
+fn kept(x: u64, lba: Lba, count: u64) -> u64
+    requires { ⌜ lba .0 + count ≤ 2 ^ 40 ⌝ }
+    ensures { λ r. ⌜ r ≡ freed (lba .0) count x ⌝ }
+{
+    let a = lba.0;
+    let end = a + count;
+    if x <= a {
+        return x;
+    }
+    if x <= end { 0 } else { x }
+}
+
+// The slots of the range are freed; their bytes stay. The bound keeps the range's end from wrapping.
+pub fn unmap_blocks(owners: &mut [u64], lba: Lba, count: u64)
+    requires { ⌜ lba .0 + count ≤ 2 ^ 40 ⌝ }
+    ensures { λ _. ⌜ now (owners .exit) ≡ unmapOwners (now (owners .entry)) (lba .0) count ⌝ }
+{
+    for i in 0..owners.len() {
+        owners[i] = kept(owners[i], lba, count);
+    }
+}

@@ -1,0 +1,267 @@
+/* Runs one operation of the benchmark many times. Three programs are built of
+   this file: with the proved library, with the second program (its names stand
+   in for the proved library's) and, under MEASURE_COPY, with a plain copy of
+   the bytes the operation moves.
+
+     measure list                  the operations: number, bytes moved, title
+     measure restore NUMBER CALLS  restores the store CALLS times
+     measure execute NUMBER CALLS  restores it and executes, CALLS times
+     measure timing NUMBER CALLS   prints nanoseconds per call
+
+   An operation may change the store, so every program copies state and owners
+   back before each call; `restore` does that alone, and the difference of the
+   two runs is the cost of the calls. Nothing else is cleared or restored: the
+   medium, data-in and sense keep what earlier calls left. */
+#define _POSIX_C_SOURCE 199309L
+#include <stdio.h>
+#include <stdlib.h>
+#include <string.h>
+#include <time.h>
+
+#include "ridge.h"
+
+enum {
+    CAPACITY = 1024,
+    ROUNDS = 9,
+    TRANSFER_BYTES = RIDGE_TRANSFER_BLOCKS * RIDGE_BLOCK_BYTES,
+    LIST_BYTES = 24,
+    DESCRIPTORS_BYTES = 8 + RIDGE_DESCRIPTORS * 16,
+    DESCRIPTOR_BLOCKS = RIDGE_SLOTS / RIDGE_DESCRIPTORS
+};
+
+enum sends { NOTHING, BLOCKS, DESCRIPTORS, KEYS };
+
+/* One row of the table. Slot i holds block 37 i mod 128, so that blocks in
+   rising order lie in scattered slots. Place i is nexus i with key 10h + i. */
+struct operation {
+    const char *title;
+    size_t slots, full, places, moved;
+    uint64_t type, holder, nexus, answer, key, action_key;
+    enum sends sends;
+    size_t cdb_bytes;
+    uint8_t cdb[16];
+};
+
+#define FULL .slots = 128, .full = 128
+#define HELD FULL, .places = 8, .type = 1, .holder = 7, .cdb_bytes = 10
+#define OUT HELD, .sends = KEYS, .moved = LIST_BYTES
+
+static const struct operation operations[] = {
+    {"TEST UNIT READY, 1 full slot", .slots = 1, .full = 1, .cdb_bytes = 6},
+    {"TEST UNIT READY, 16 full slots", .slots = 16, .full = 16, .cdb_bytes = 6},
+    {"TEST UNIT READY, 64 full slots", .slots = 64, .full = 64, .cdb_bytes = 6},
+    {"TEST UNIT READY, 128 full slots", FULL, .cdb_bytes = 6},
+    {"TEST UNIT READY, 128 free slots", .slots = 128, .cdb_bytes = 6},
+    {"INQUIRY", FULL, .moved = 36, .cdb_bytes = 6, .cdb = {0x12, 0, 0, 0, 36}},
+    {"READ CAPACITY(10)", FULL, .moved = 8, .cdb_bytes = 10, .cdb = {0x25}},
+    {"READ CAPACITY(16)", FULL, .moved = 32, .cdb_bytes = 16,
+     .cdb = {0x9E, 0x10, [13] = 32}},
+    {"READ(10), 1 block, mapped", FULL, .moved = 512, .cdb_bytes = 10,
+     .cdb = {0x28, [5] = 5, [8] = 1}},
+    {"READ(10), 1 block, unmapped", FULL, .moved = 512, .cdb_bytes = 10,
+     .cdb = {0x28, [4] = 2, [8] = 1}},
+    {"READ(10), 128 blocks, mapped", FULL, .moved = TRANSFER_BYTES,
+     .cdb_bytes = 10, .cdb = {0x28, [8] = 128}},
+    {"READ(10), 128 blocks, unmapped", FULL, .moved = TRANSFER_BYTES,
+     .cdb_bytes = 10, .cdb = {0x28, [4] = 2, [8] = 128}},
+    {"READ(10), 128 blocks, unmapped, 128 free slots", .slots = 128,
+     .moved = TRANSFER_BYTES, .cdb_bytes = 10, .cdb = {0x28, [8] = 128}},
+    {"WRITE(10), 1 block, mapped", FULL, .moved = 512, .sends = BLOCKS,
+     .cdb_bytes = 10, .cdb = {0x2A, [5] = 5, [8] = 1}},
+    {"WRITE(10), 1 block, new, 127 full slots", .slots = 128, .full = 127,
+     .moved = 512, .sends = BLOCKS, .cdb_bytes = 10,
+     .cdb = {0x2A, [4] = 2, [8] = 1}},
+    {"WRITE(10), 128 blocks, mapped", FULL, .moved = TRANSFER_BYTES,
+     .sends = BLOCKS, .cdb_bytes = 10, .cdb = {0x2A, [8] = 128}},
+    {"WRITE(10), 128 blocks, new, 128 free slots", .slots = 128,
+     .moved = TRANSFER_BYTES, .sends = BLOCKS, .cdb_bytes = 10,
+     .cdb = {0x2A, [8] = 128}},
+    {"WRITE(10), 1 block, refused for room (8)", FULL, .sends = BLOCKS,
+     .answer = RIDGE_POOL_FULL, .cdb_bytes = 10, .cdb = {0x2A, [4] = 2, [8] = 1}},
+    {"WRITE(10), 128 blocks, refused for room (8)", FULL, .sends = BLOCKS,
+     .answer = RIDGE_POOL_FULL, .cdb_bytes = 10,
+     .cdb = {0x2A, [4] = 2, [8] = 128}},
+    {"UNMAP, 16 descriptors, all 128 slots freed", FULL, .sends = DESCRIPTORS,
+     .moved = DESCRIPTORS_BYTES, .cdb_bytes = 10,
+     .cdb = {0x42, [7] = DESCRIPTORS_BYTES >> 8, DESCRIPTORS_BYTES & 0xFF}},
+    {"RESERVE IN, READ KEYS, 8 places", HELD, .moved = 72,
+     .cdb = {0x5E, 0, [7] = 1, 0}},
+    {"RESERVE IN, READ RESERVATION", HELD, .moved = 24,
+     .cdb = {0x5E, 1, [7] = 1, 0}},
+    {"RESERVE OUT, REGISTER, new, eighth place", FULL, .places = 7, .nexus = 7,
+     .sends = KEYS, .moved = LIST_BYTES, .action_key = 0x77, .cdb_bytes = 10,
+     .cdb = {0x5F, 0, [8] = LIST_BYTES}},
+    {"RESERVE OUT, REGISTER, change of key", OUT, .nexus = 7, .key = 0x17,
+     .action_key = 0x77, .cdb = {0x5F, 0, [8] = LIST_BYTES}},
+    {"RESERVE OUT, REGISTER AND IGNORE", OUT, .nexus = 7,
+     .action_key = 0x77, .cdb = {0x5F, 6, [8] = LIST_BYTES}},
+    {"RESERVE OUT, RESERVE", FULL, .places = 8, .nexus = 7, .sends = KEYS,
+     .moved = LIST_BYTES, .key = 0x17, .cdb_bytes = 10,
+     .cdb = {0x5F, 1, 1, [8] = LIST_BYTES}},
+    {"RESERVE OUT, RELEASE", OUT, .nexus = 7, .key = 0x17,
+     .cdb = {0x5F, 2, 1, [8] = LIST_BYTES}},
+    {"RESERVE OUT, CLEAR", OUT, .nexus = 7, .key = 0x17,
+     .cdb = {0x5F, 3, 0, [8] = LIST_BYTES}},
+    {"RESERVE OUT, PREEMPT of the holder", OUT, .nexus = 0, .key = 0x10,
+     .action_key = 0x17, .cdb = {0x5F, 4, 3, [8] = LIST_BYTES}},
+};
+enum { OPERATIONS = sizeof operations / sizeof operations[0] };
+
+static const struct operation *operation;
+static _Alignas(64) uint64_t state[RIDGE_STATE_WORDS], saved_state[RIDGE_STATE_WORDS];
+static _Alignas(64) uint64_t owners[RIDGE_SLOTS], saved_owners[RIDGE_SLOTS];
+static _Alignas(64) uint8_t medium[TRANSFER_BYTES];
+static _Alignas(64) uint8_t data_out[TRANSFER_BYTES];
+static _Alignas(64) uint8_t data_in[TRANSFER_BYTES];
+static size_t data_out_bytes;
+static uint64_t answer;
+
+static void store(uint8_t *at, size_t bytes, uint64_t number)
+{
+    for (size_t place = 0; place < bytes; place++)
+        at[place] = (uint8_t)(number >> (8 * (bytes - 1 - place)));
+}
+
+static void prepare_store(void)
+{
+    saved_state[RIDGE_WORD_CAPACITY] = CAPACITY;
+    saved_state[RIDGE_WORD_TYPE] = operation->type;
+    saved_state[RIDGE_WORD_HOLDER] = operation->holder;
+    for (size_t place = 0; place < operation->places; place++) {
+        saved_state[RIDGE_WORD_NEXUS + place] = place;
+        saved_state[RIDGE_WORD_KEY + place] = 0x10 + place;
+    }
+    for (size_t slot = 0; slot < operation->full; slot++)
+        saved_owners[slot] = 1 + slot * 37 % RIDGE_SLOTS;
+    for (size_t i = 0; i < sizeof medium; i++)
+        medium[i] = (uint8_t)(i * 7 + i / 512);
+}
+
+static void prepare_blocks(void)
+{
+    data_out_bytes = TRANSFER_BYTES;
+    for (size_t i = 0; i < sizeof data_out; i++)
+        data_out[i] = (uint8_t)(i * 5 + i / 512);
+}
+
+/* The descriptors take equal shares of the pool's 128 blocks. */
+static void prepare_descriptors(void)
+{
+    data_out_bytes = DESCRIPTORS_BYTES;
+    store(data_out, 2, DESCRIPTORS_BYTES - 2);
+    store(data_out + 2, 2, DESCRIPTORS_BYTES - 8);
+    for (size_t i = 0; i < RIDGE_DESCRIPTORS; i++) {
+        store(data_out + 8 + 16 * i, 8, DESCRIPTOR_BLOCKS * i);
+        store(data_out + 16 + 16 * i, 4, DESCRIPTOR_BLOCKS);
+    }
+}
+
+static void prepare_keys(void)
+{
+    data_out_bytes = LIST_BYTES;
+    store(data_out, 8, operation->key);
+    store(data_out + 8, 8, operation->action_key);
+}
+
+static void prepare(void)
+{
+    prepare_store();
+    if (operation->sends == BLOCKS)
+        prepare_blocks();
+    if (operation->sends == DESCRIPTORS)
+        prepare_descriptors();
+    if (operation->sends == KEYS)
+        prepare_keys();
+}
+
+static void restore(void)
+{
+    memcpy(state, saved_state, sizeof state);
+    memcpy(owners, saved_owners, sizeof owners);
+}
+
+static void call_nothing(void)
+{
+}
+
+#ifdef MEASURE_COPY
+/* Through a pointer the compiler cannot see, so that it is the C library's. */
+static void *(*volatile copy)(void *, const void *, size_t) = memcpy;
+
+static void call(void)
+{
+    if (operation->sends == NOTHING)
+        copy(data_in, medium, operation->moved);
+    else
+        copy(medium, data_out, operation->moved);
+    answer = operation->answer;
+}
+#else
+static void call(void)
+{
+    static uint8_t sense[RIDGE_SENSE_BYTES];
+    uint64_t returned;
+    answer = ridge_execute(
+        state, RIDGE_STATE_WORDS, owners, operation->slots, medium,
+        operation->slots * RIDGE_BLOCK_BYTES, operation->nexus, operation->cdb,
+        operation->cdb_bytes, data_out, data_out_bytes, data_in, sizeof data_in,
+        sense, sizeof sense, &returned);
+}
+#endif
+
+/* The pointer is volatile so that neither loop is optimised for its call. */
+static void repeat(void (*action)(void), unsigned long calls)
+{
+    void (*volatile act)(void) = action;
+    for (unsigned long i = 0; i < calls; i++) {
+        restore();
+        act();
+    }
+}
+
+static double least_nanoseconds(void (*action)(void), unsigned long calls)
+{
+    double least = 1e18;
+    for (int round = 0; round < ROUNDS; round++) {
+        struct timespec start, end;
+        clock_gettime(CLOCK_MONOTONIC, &start);
+        repeat(action, calls);
+        clock_gettime(CLOCK_MONOTONIC, &end);
+        double taken = (double)(end.tv_sec - start.tv_sec) * 1e9 +
+                       (double)(end.tv_nsec - start.tv_nsec);
+        least = taken < least ? taken : least;
+    }
+    return least;
+}
+
+static int list(void)
+{
+    for (size_t i = 0; i < OPERATIONS; i++)
+        printf("%02zu %zu %s\n", i, operations[i].moved, operations[i].title);
+    return 0;
+}
+
+int main(int count, char **arguments)
+{
+    if (count == 2 && strcmp(arguments[1], "list") == 0)
+        return list();
+    size_t number = count == 4 ? strtoul(arguments[2], NULL, 10) : OPERATIONS;
+    if (number >= OPERATIONS)
+        return 2;
+    unsigned long calls = strtoul(arguments[3], NULL, 10);
+    operation = &operations[number];
+    prepare();
+    repeat(call, 1); /* both kinds of run make it, so its cost cancels */
+    if (answer != operation->answer) {
+        fprintf(stderr, "%s: answer %d\n", operation->title, (int)answer);
+        return 1;
+    }
+    if (strcmp(arguments[1], "restore") == 0)
+        repeat(call_nothing, calls);
+    else if (strcmp(arguments[1], "execute") == 0)
+        repeat(call, calls);
+    else
+        printf("%.1f\n", (least_nanoseconds(call, calls) -
+                          least_nanoseconds(call_nothing, calls)) / (double)calls);
+    return 0;
+}

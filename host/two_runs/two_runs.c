@@ -1,0 +1,320 @@
+/*
+ * two_runs.c - runs pairs of histories on the proved library to see that a
+ * nexus that is shut out from reading learns nothing of blocks and maps.
+ *
+ *   two_runs STEPS SEED
+ *
+ * The two stores of a pair have equal capacity, registrations, reservation and
+ * generation; slots, maps and blocks differ. Both get the same reservation-out
+ * calls (operation code 5Fh) and the same calls by nexuses then shut out, in
+ * the same order with the same lent data and sense buffers, the whole pool lent
+ * each time. Between these, each gets other calls of its own.
+ *
+ * Then each of the common calls gives the same answer, returned count, data-in
+ * and sense in both, and leaves equal states; no reservation-out call changes a
+ * block or a mapping, and no other shut-out call changes anything stored.
+ *
+ * Exit status: 0 all held and enough was compared; 1 something did not hold,
+ * which is printed; 2 too little compared, bad usage.
+ */
+
+#include <inttypes.h>
+#include <stdio.h>
+#include <stdlib.h>
+#include <string.h>
+
+#include "../differential/generate.h"
+
+enum { RESERVE_OUT_CODE = 0x5F, STEPS_OF_PAIR = 60 };
+
+/* One of the two stores, with what it was lent and what it answered. */
+struct side {
+    struct store store;
+    struct store before;
+    uint64_t answer;
+    uint64_t returned;
+    uint8_t data_in[DATA_ROOM];
+    uint8_t sense[SENSE_ROOM];
+};
+
+struct figures {
+    uint64_t steps;
+    uint64_t pairs;
+    uint64_t out_calls;
+    uint64_t shut_out_calls;
+    uint64_t other_calls;
+    uint64_t other_good_writes;
+    uint64_t shut_out_codes[256];
+    uint64_t shut_out_answers[16];
+};
+
+struct run {
+    struct random random;
+    uint64_t seed;
+    struct side left;
+    struct side right;
+    struct request request;
+    uint8_t data_in[DATA_ROOM];
+    uint8_t sense[SENSE_ROOM];
+    struct figures figures;
+};
+
+/* ---- Reports ---- */
+
+static void print_side(const char *name, const struct side *side)
+{
+    printf("%s: answer %" PRIu64 ", returned %" PRIu64 ", %zu slots\n  state",
+           name, side->answer, side->returned, side->store.slots);
+    for (size_t index = 0; index < RIDGE_STATE_WORDS; index++)
+        printf(" %" PRIX64, side->before.state[index]);
+    printf("\n  owners");
+    for (size_t slot = 0; slot < side->store.slots; slot++)
+        printf(" %" PRIX64, side->before.owners[slot]);
+    printf("\n");
+}
+
+static void fail(const struct run *run, const char *what)
+{
+    printf("difference: %s\n", what);
+    printf("seed %" PRIu64 ", step %" PRIu64 ", pair %" PRIu64
+           ", nexus %" PRIu64 ", %zu bytes of data-out, cdb",
+           run->seed, run->figures.steps, run->figures.pairs,
+           run->request.nexus, run->request.data_out_bytes);
+    for (size_t index = 0; index < run->request.cdb_bytes; index++)
+        printf(" %02X", run->request.cdb[index]);
+    printf("\n");
+    print_side("left before", &run->left);
+    print_side("right before", &run->right);
+    exit(1);
+}
+
+/* ---- Calls ---- */
+
+static bool is_reserve_out(const struct request *request)
+{
+    return request->cdb_bytes > 0 && request->cdb[0] == RESERVE_OUT_CODE;
+}
+
+/* READ would conflict for it: under 3 all but the holder, under 6 and 8 all
+   that are not registered. A nexus above 15 is never registered. */
+static bool is_shut_out(const uint64_t *state, uint64_t nexus)
+{
+    switch (state[RIDGE_WORD_TYPE]) {
+    case 3:
+        return nexus != state[RIDGE_WORD_HOLDER];
+    case 6:
+    case 8:
+        return key_of(state, nexus) == 0;
+    default:
+        return false;
+    }
+}
+
+static void execute(struct run *run, struct side *side)
+{
+    const struct request *request = &run->request;
+    struct store *store = &side->store;
+
+    memcpy(side->data_in, run->data_in, request->data_in_bytes);
+    memcpy(side->sense, run->sense, sizeof side->sense);
+    memcpy(side->before.state, store->state, sizeof store->state);
+    memcpy(side->before.owners, store->owners, sizeof store->owners);
+    memcpy(side->before.medium, store->medium,
+           store->slots * RIDGE_BLOCK_BYTES);
+    side->answer = ridge_execute(
+        store->state, RIDGE_STATE_WORDS, store->owners, store->slots,
+        store->medium, store->slots * RIDGE_BLOCK_BYTES, request->nexus,
+        request->cdb, request->cdb_bytes, request->data_out,
+        request->data_out_bytes, side->data_in, request->data_in_bytes,
+        side->sense, request->sense_bytes, &side->returned);
+}
+
+static bool map_kept(const struct side *side)
+{
+    return memcmp(side->before.owners, side->store.owners,
+                  sizeof side->store.owners) == 0 &&
+           memcmp(side->before.medium, side->store.medium,
+                  side->store.slots * RIDGE_BLOCK_BYTES) == 0;
+}
+
+static bool state_kept(const struct side *side)
+{
+    return memcmp(side->before.state, side->store.state,
+                  sizeof side->store.state) == 0;
+}
+
+/* The call in hand goes to both stores; all that the sender sees is equal. */
+static void common_call(struct run *run)
+{
+    const struct side *left = &run->left;
+    const struct side *right = &run->right;
+
+    random_fill(&run->random, run->data_in, run->request.data_in_bytes);
+    random_fill(&run->random, run->sense, sizeof run->sense);
+    execute(run, &run->left);
+    execute(run, &run->right);
+    if (left->answer != right->answer)
+        fail(run, "the answers of the two runs differ");
+    if (left->returned != right->returned)
+        fail(run, "the returned counts of the two runs differ");
+    if (memcmp(left->data_in, right->data_in, run->request.data_in_bytes) != 0)
+        fail(run, "the data-in buffers of the two runs differ");
+    if (memcmp(left->sense, right->sense, sizeof left->sense) != 0)
+        fail(run, "the sense buffers of the two runs differ");
+    if (memcmp(left->store.state, right->store.state,
+               sizeof left->store.state) != 0)
+        fail(run, "the states of the two runs differ");
+    if (!map_kept(left) || !map_kept(right))
+        fail(run, "a block or a mapping has changed");
+    if (!is_reserve_out(&run->request) &&
+        (!state_kept(left) || !state_kept(right)))
+        fail(run, "a shut-out call has changed the state");
+}
+
+static void out_call(struct run *run)
+{
+    uint64_t nexus = generate_nexus(&run->random, run->left.store.state);
+
+    generate_reserve_out(&run->random, &run->left.store, nexus, &run->request);
+    common_call(run);
+    run->figures.out_calls++;
+}
+
+/* A call by a nexus that is shut out, made up from either store. */
+static void shut_out_call(struct run *run)
+{
+    const struct store *store = random_percent(&run->random, 50)
+                                    ? &run->left.store
+                                    : &run->right.store;
+    uint64_t first = random_below(&run->random, 18);
+    uint64_t nexus = first;
+
+    while (!is_shut_out(store->state, nexus)) {
+        nexus = (nexus + 1) % 18;
+        if (nexus == first)
+            return;
+    }
+    generate_request(&run->random, store, nexus, &run->request);
+    common_call(run);
+    run->figures.shut_out_calls++;
+    run->figures.shut_out_codes[run->request.cdb[0]]++;
+    run->figures.shut_out_answers[run->left.answer & 15]++;
+}
+
+/* A call on one store alone, by a nexus that is not shut out. */
+static void other_call(struct run *run, struct side *side)
+{
+    uint64_t nexus = generate_nexus(&run->random, side->store.state);
+
+    if (is_shut_out(side->store.state, nexus))
+        return;
+    generate_request(&run->random, &side->store, nexus, &run->request);
+    if (is_reserve_out(&run->request))
+        return;
+    random_fill(&run->random, run->data_in, run->request.data_in_bytes);
+    execute(run, side);
+    run->figures.other_calls++;
+    if (!map_kept(side))
+        run->figures.other_good_writes++;
+    if (!state_kept(side))
+        fail(run, "a call that is no reservation-out call changed the state");
+}
+
+/* ---- Pairs ---- */
+
+static void make_pair(struct run *run)
+{
+    struct store *left = &run->left.store;
+    struct store *right = &run->right.store;
+
+    generate_store(&run->random, left);
+    if (random_percent(&run->random, 80))
+        generate_reservation(&run->random, left->state,
+                             RANDOM_CHOICE(&run->random, 3, 6, 8));
+    memcpy(right->state, left->state, sizeof left->state);
+    right->slots = generate_slots(&run->random);
+    generate_map(&run->random, right);
+    run->left.before.slots = left->slots;
+    run->right.before.slots = right->slots;
+    run->figures.pairs++;
+}
+
+static void step(struct run *run)
+{
+    uint64_t kind = random_below(&run->random, 100);
+
+    run->figures.steps++;
+    if (kind < 15) {
+        out_call(run);
+    } else if (kind < 60) {
+        shut_out_call(run);
+    } else {
+        for (uint64_t left = random_below(&run->random, 3); left > 0; left--)
+            other_call(run, &run->left);
+        for (uint64_t left = random_below(&run->random, 3); left > 0; left--)
+            other_call(run, &run->right);
+    }
+}
+
+/* ---- Figures at the end ---- */
+
+static bool print_count(const char *name, uint64_t count, uint64_t floor)
+{
+    printf("%s: %" PRIu64 "\n", name, count);
+    if (count >= floor)
+        return true;
+    printf("too few: %s, floor %" PRIu64 "\n", name, floor);
+    return false;
+}
+
+static bool print_figures(const struct figures *figures)
+{
+    const uint64_t *codes = figures->shut_out_codes;
+    uint64_t steps = figures->steps;
+    bool enough = true;
+
+    enough &= print_count("pairs", figures->pairs, steps / STEPS_OF_PAIR);
+    enough &= print_count("reservation-out calls compared",
+                          figures->out_calls, steps / 10);
+    enough &= print_count("shut-out calls compared", figures->shut_out_calls,
+                          steps / 10);
+    enough &= print_count("of these READ", codes[0x28] + codes[0x88],
+                          steps / 100);
+    enough &= print_count("of these WRITE", codes[0x2A] + codes[0x8A],
+                          steps / 100);
+    enough &= print_count("of these UNMAP", codes[0x42], steps / 100);
+    enough &= print_count("of these reservation-out", codes[RESERVE_OUT_CODE],
+                          steps / 100);
+    enough &= print_count("other calls between", figures->other_calls,
+                          steps / 10);
+    enough &= print_count("of these changed a map or block",
+                          figures->other_good_writes, steps / 100);
+    printf("answers of shut-out calls:");
+    for (unsigned answer = 0; answer <= RIDGE_BUFFER_SHORT; answer++)
+        printf(" %u: %" PRIu64, answer, figures->shut_out_answers[answer]);
+    printf("\n");
+    return enough;
+}
+
+int main(int count, char **words)
+{
+    static struct run run;
+    uint64_t steps = count > 1 ? strtoull(words[1], NULL, 10) : 100000;
+    bool enough;
+
+    run.seed = count > 2 ? strtoull(words[2], NULL, 10) : 20260102;
+    run.random.state = run.seed;
+    if (count > 3 || steps == 0) {
+        fprintf(stderr, "usage: two_runs [STEPS [SEED]]\n");
+        return 2;
+    }
+    while (run.figures.steps < steps) {
+        if (run.figures.steps % STEPS_OF_PAIR == 0)
+            make_pair(&run);
+        step(&run);
+    }
+    enough = print_figures(&run.figures);
+    printf("%" PRIu64 " steps, seed %" PRIu64 ": no difference\n",
+           run.figures.steps, run.seed);
+    return enough ? 0 : 2;
+}

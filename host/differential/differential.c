@@ -496,12 +496,13 @@ static uint64_t fresh_bounds(struct run *run)
     memset(lending, 0, sizeof *lending);
     lending->bytes[STATE] = 8 * RIDGE_STATE_WORDS;
     lending->bytes[OWNERS] = 8 * generate_slots(&run->random);
-    switch (random_below(&run->random, 12)) {
+    switch (random_below(&run->random, 8)) {
     case 0:
         return RANDOM_CHOICE(&run->random, 0, RIDGE_CAPACITY_LAST + 1,
                              UINT64_C(1) << 63, UINT64_MAX);
     case 1:
-        lending->bytes[OWNERS] = 8 * (size_t)RANDOM_CHOICE(&run->random, 0, 129);
+        lending->bytes[OWNERS] =
+            8 * (size_t)RANDOM_CHOICE(&run->random, 0, 129);
         break;
     case 2:
         lending->bytes[STATE] =
@@ -619,7 +620,7 @@ static void run_calls(struct run *run, uint64_t calls)
     while (run->figures.calls < calls) {
         if (left == 0) {
             left = 1 + random_below(&run->random, 100);
-            if (random_percent(&run->random, 70) || !fresh_store(run))
+            if (random_percent(&run->random, 50) || !fresh_store(run))
                 generate_store(&run->random, &run->store);
         }
         one_call(run);

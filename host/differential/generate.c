@@ -251,7 +251,9 @@ static uint64_t generate_address(struct random *random,
     case 0:
         return capacity + random_below(random, 3);
     case 1:
-        return UINT64_MAX - random_below(random, 130);
+        /* So near the top that even a small count wraps. */
+        return UINT64_MAX - random_below(random, random_percent(random, 70)
+                                                     ? 4 : 130);
     case 2:
         return random_word(random);
     case 3:
@@ -523,12 +525,16 @@ static void make_reserve_out(struct random *random, const struct store *store,
         request->data_out_bytes = 24;
 }
 
+/* The two draws stand apart: C leaves the order of arguments open, and a seed
+   must give the same calls whatever the compiler. */
 static void make_other_code(struct random *random, const struct store *store,
                             struct request *request)
 {
+    uint8_t code = (uint8_t)random_word(random);
+    size_t bytes = (size_t)RANDOM_CHOICE(random, 1, 6, 10, 12, 16, 17);
+
     (void)store;
-    start_cdb(random, request, (uint8_t)random_word(random),
-              (size_t)RANDOM_CHOICE(random, 1, 6, 10, 12, 16, 17));
+    start_cdb(random, request, code, bytes);
 }
 
 typedef void make_function(struct random *random, const struct store *store,
@@ -632,5 +638,6 @@ void generate_rare(struct random *random, const struct store *store,
         nexus = store->state[RIDGE_WORD_HOLDER];
     generate_reserve_out(random, store, nexus, request);
     request->cdb[1] = (uint8_t)(release ? 2 : RANDOM_CHOICE(random, 0, 6));
-    put(request->data_out, 8, key_of(store->state, nexus));
+    if (random_percent(random, 85))
+        put(request->data_out, 8, key_of(store->state, nexus));
 }

@@ -1,5 +1,6 @@
 /* How to link the store: make one, write a block, read it back, ask past the
-   end. Build: gcc -Ihost/include host/example/example.c libridge.a */
+   end. On x86-64, after `rt staticlib ridge`:
+     gcc -Ihost/include host/example/example.c target/staticlib/libridge.a */
 #include <stdio.h>
 #include <string.h>
 

@@ -483,7 +483,8 @@ static uint64_t read_capacity_16(struct call *call)
 
 /* ---- PERSISTENT RESERVE IN ---- */
 
-static size_t key_list(const uint64_t *state, uint8_t data[8 + 8 * RIDGE_PLACES])
+static size_t key_list(const uint64_t *state,
+                       uint8_t data[8 + 8 * RIDGE_PLACES])
 {
     size_t length = 0;
 
@@ -688,7 +689,7 @@ static uint64_t preempt(struct call *call, const struct order *order)
     return RIDGE_GOOD;
 }
 
-/* A registered sender gives its key; in REGISTER an unregistered one gives 0. */
+/* A registered sender gives its key, in REGISTER an unregistered one 0. */
 static bool key_is_right(const struct call *call, const struct order *order,
                          enum action action)
 {

@@ -1,20 +1,20 @@
 -- What is valid stays so: a write within the capacity and an unmapping keep the map valid, and every length.
 -- Assumes nothing.
-use mathlib.Core.Path.{_≡_, refl, ap, _∙_}
-use mathlib.Core.Bool.{Bool, true, false, not, _&&_, _||_, cond}
+use mathlib.Core.Path.{_≡_, refl, _∙_}
+use mathlib.Core.Bool.{Bool, not, _&&_, _||_, cond}
 use mathlib.Core.List.{List, [], _∷_, map}
 use mathlib.Core.Logic.{_≢_}
 use Prim.Native.Nat.{ℕ, zero, suc, _+_, _*_, _≤_, _<_}
 use native.Mathlib.Omega.{arith}
 use borrow.Author.Tests.{ne-eqb}
-use lib.Dec.{T, eqb, leb, eqb→eq, leb→le, le→leb, eqb-refl}
+use lib.Dec.{T, eqb, leb, eqb→eq, le→leb, eqb-refl}
 use lib.ListN.{length, take, drop, length-map}
 use Rattle.fields.specs.Bytes.{put, zeros}
 use Rattle.fields.proofs.BytesLaws.{length-put, length-zeros}
-use Rattle.fields.proofs.Tests.{and-l, and-r, both, or-l, or-r, or-other, nor-l, nor-r, false→T}
+use Rattle.fields.proofs.Tests.{and-l, and-r, both, or-other, nor-r, false→T}
 use Rattle.map.specs.Pool.{Pool, place, has, mapped, fill, assign, assignBlocks, putBlocks, writeBlocks, freed, unmapOwners, unmapBlocks}
 use Rattle.map.specs.Valid.{within, distinct, mapOk, slotsOk, poolOk}
-use Rattle.map.proofs.Held.{by-test, by-equal, length-fill, has-fill-other, freed-ways, T-false}
+use Rattle.map.proofs.Held.{by-test, by-equal, length-fill, has-fill-other, freed-ways}
 
 -- ---- lengths
 
@@ -191,6 +191,12 @@ mapOk-zeros capacity n = mapOk-of capacity (zeros n) (all-within n) (all-distinc
     all-within : (n : ℕ) → T (within capacity (zeros n))
     all-within zero = tt
     all-within (suc n) = both (leb 0 capacity) (within capacity (zeros n)) (le→leb 0 capacity (omega arith)) (all-within n)
+
     all-distinct : (n : ℕ) → T (distinct (zeros n))
     all-distinct zero = tt
     all-distinct (suc n) = distinct-more 0 (zeros n) (λ d. absurd (d refl)) (all-distinct n)
+
+pub poolOk-fresh : (capacity slots : ℕ) (medium : List ℕ) → T (slotsOk slots) → length medium ≡ 512 * slots
+    → T (poolOk capacity (record { owners = zeros slots; medium = medium }))
+poolOk-fresh capacity slots medium t e =
+    poolOk-of capacity (record { owners = zeros slots; medium = medium }) (rw (length-zeros slots) t) (rw (length-zeros slots) e) (mapOk-zeros capacity slots)

@@ -3,3 +3,5 @@ pub mod Keeping
 pub mod Writing
 pub mod Unmapping
 pub mod Reading
+pub mod Clashes
+pub mod Alike

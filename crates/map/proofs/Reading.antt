@@ -2,19 +2,18 @@
 -- unmapped blocks, and all of a fresh pool, read as zeros.
 -- Assumes nothing.
 use mathlib.Core.Path.{_≡_, refl, sym, ap, ap₂, _∙_, subst}
-use mathlib.Core.Bool.{Bool, true, false, not, cond}
-use mathlib.Core.List.{List, [], _∷_, _++_}
+use mathlib.Core.Bool.{true, false}
+use mathlib.Core.List.{List, _++_}
 use Prim.Native.Nat.{ℕ, zero, suc, _+_, _*_, _≤_, _<_}
 use native.Mathlib.Omega.{arith}
 use native.Mathlib.Nat.{add-zero, add-suc, suc-add}
-use lib.Dec.{T}
 use lib.ListN.{length, take, drop, length-append}
 use lib.Seq.{take-add, drop-drop}
 use Rattle.fields.specs.Bytes.{part, zeros}
 use Rattle.fields.proofs.BytesLaws.{length-part, length-zeros, zeros-add}
 use Rattle.fields.proofs.Tests.{test, true→T}
-use Rattle.map.specs.Pool.{Pool, place, mapped, free, unmapped, readBlock, readBlocks, assignBlocks, putBlocks, writeBlocks, unmapOwners, unmapBlocks}
-use Rattle.map.proofs.Held.{T-true, T-false, place-below, places-apart, all-free}
+use Rattle.map.specs.Pool.{Pool, place, mapped, free, unmapped, readBlock, readBlocks, assignBlocks, writeBlocks, unmapBlocks}
+use Rattle.map.proofs.Held.{T-true, T-false, place-below, places-apart, all-free, free-zeros}
 use Rattle.map.proofs.Keeping.{length-assignBlocks}
 use Rattle.map.proofs.Writing.{mapped-write-in, mapped-write-out, place-write-out, put-in, put-out, next-block}
 use Rattle.map.proofs.Unmapping.{mapped-unmap-in, mapped-unmap-out, place-unmapped-out}
@@ -38,13 +37,13 @@ module _ (p : Pool) (b : ℕ) where
       ap length (read-mapped (T-true (mapped (p .owners) b) t)) ∙ length-part (p .medium) (512 * place (suc b) (p .owners)) 512 (omega arith))
       (λ t. ap length (read-unmapped (T-false (mapped (p .owners) b) t)) ∙ length-zeros 512)
 
-  -- a fresh pool
-  pub fresh-mapped : free (p .owners) ≡ length (p .owners) → mapped (p .owners) b ≡ false
-  unfolding mapped
-  fresh-mapped e = all-free (suc b) (p .owners) (omega arith) e
+-- a fresh pool, whatever its medium holds
+pub fresh-mapped : (slots b : ℕ) → mapped (zeros slots) b ≡ false
+unfolding mapped
+fresh-mapped slots b = all-free (suc b) (zeros slots) (omega arith) (free-zeros slots ∙ sym (length-zeros slots))
 
-  pub fresh-read : free (p .owners) ≡ length (p .owners) → readBlock p b ≡ zeros 512
-  fresh-read e = read-unmapped (fresh-mapped e)
+pub fresh-read : (slots : ℕ) (medium : List ℕ) (b : ℕ) → readBlock (record { owners = zeros slots; medium = medium }) b ≡ zeros 512
+fresh-read slots medium b = read-unmapped (record { owners = zeros slots; medium = medium }) b (fresh-mapped slots b)
 
 -- ---- after a write
 
@@ -125,5 +124,5 @@ read-after-write p a n bs w l room = reads-blocks (writeBlocks p a n bs) a n bs 
 pub read-after-unmap : (p : Pool) (a n : ℕ) → readBlocks (unmapBlocks p a n) a n ≡ zeros (512 * n)
 read-after-unmap p a n = reads-zeros (unmapBlocks p a n) a n (λ i h. unmap-in p a n i h)
 
-pub read-fresh : (p : Pool) (a n : ℕ) → free (p .owners) ≡ length (p .owners) → readBlocks p a n ≡ zeros (512 * n)
-read-fresh p a n e = reads-zeros p a n (λ i h. fresh-read p (a + i) e)
+pub read-fresh : (slots : ℕ) (medium : List ℕ) (a n : ℕ) → readBlocks (record { owners = zeros slots; medium = medium }) a n ≡ zeros (512 * n)
+read-fresh slots medium a n = reads-zeros (record { owners = zeros slots; medium = medium }) a n (λ i h. fresh-read slots medium (a + i))

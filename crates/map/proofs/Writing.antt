@@ -2,7 +2,7 @@
 -- A block b lies outside the n blocks from a on where `a ≤ b → a + n ≤ b`.
 -- Assumes nothing.
 use mathlib.Core.Path.{_≡_, refl, sym, ap, ap₂, _∙_}
-use mathlib.Core.Bool.{Bool, true, cond}
+use mathlib.Core.Bool.{Bool, true, not, cond}
 use mathlib.Core.List.{List}
 use mathlib.Core.Logic.{_≢_}
 use Prim.Native.Nat.{ℕ, zero, suc, _+_, _-_, _*_, _≤_, _<_}
@@ -15,7 +15,7 @@ use Rattle.fields.specs.Bytes.{part, put}
 use Rattle.fields.proofs.BytesLaws.{length-put, part-put-same, part-put-before, part-put-behind}
 use Rattle.fields.proofs.Tests.{test}
 use Rattle.map.specs.Pool.{place, has, mapped, free, unmapped, fill, assign, assignBlocks, putBlocks}
-use Rattle.map.proofs.Held.{by-test, by-equal, T-true, place-below, places-apart, has-fill, has-fill-other, place-fill-other, has-free, free-fill}
+use Rattle.map.proofs.Held.{by-test, by-equal, T-true, T-false, place-below, places-apart, has-fill, has-fill-other, place-fill, place-fill-other, has-free, free-fill}
 
 -- two ways: the block b is one of the n from a on, or outside
 pub in-or-out : {X : Type 0} (a n b : ℕ) → ((i : ℕ) → i < n → b ≡ a + i → X) → ((a ≤ b → a + n ≤ b) → X) → X
@@ -52,6 +52,11 @@ module _ (owners : List ℕ) (a : ℕ) where
   place-assign-other b d =
       by-test (mapped owners a) (λ q. place (suc b) (cond q owners (fill (suc a) owners)) ≡ place (suc b) owners)
       (λ t. refl) (λ t. place-fill-other (suc a) (suc b) owners (omega arith) (omega arith))
+
+  -- "the lowest free slot"
+  pub place-assign : T (not (mapped owners a)) → place (suc a) (assign owners a) ≡ place 0 owners
+  unfolding assign mapped
+  place-assign t = rw (T-false (has (suc a) owners) t) (place-fill (suc a) owners t)
 
   -- nothing changes where the address is mapped
   pub assign-mapped : T (mapped owners a) → assign owners a ≡ owners
@@ -133,6 +138,17 @@ free-write owners a (suc n) room =
     let ih = free-write (assign owners a) (suc a) n (room-rest owners a n room) in
     let d = unmapped-assign owners a (suc a) n (omega arith) in
     let e = free-assign owners a (omega arith) in omega arith
+
+-- none of the range is unmapped after
+pub unmapped-write : (owners : List ℕ) (a n : ℕ) → unmapped owners a n ≤ free owners → unmapped (assignBlocks owners a n) a n ≡ 0
+unfolding unmapped
+unmapped-write owners a n room = all-mapped (assignBlocks owners a n) a n (λ i h. mapped-write-in owners a n room i h)
+  where
+    all-mapped : (owners : List ℕ) (a n : ℕ) → ((i : ℕ) → i < n → mapped owners (a + i) ≡ true) → unmapped owners a n ≡ 0
+    all-mapped owners a zero each = refl
+    all-mapped owners a (suc n) each =
+        ap₂ (λ (q : Bool) (m : ℕ). cond q 0 1 + m) (ap (mapped owners) (sym (add-zero a)) ∙ each 0 (omega arith))
+        (all-mapped owners (suc a) n (λ i h. ap (mapped owners) (suc-add a i ∙ sym (add-suc a i)) ∙ each (suc i) (omega arith)))
 
 -- ---- the medium after a write
 

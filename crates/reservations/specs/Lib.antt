@@ -3,3 +3,5 @@ pub mod Rights
 pub mod Conflict
 pub mod Actions
 pub mod Told
+pub mod Search
+pub mod Page

@@ -1,4 +1,10 @@
 // Who may do what: registrations, the reservation, the conflict rule, and the six actions that change them.
+pub mod actions;
+pub mod conflict;
+mod kinds;
+mod places;
+pub mod standing;
+pub mod told;
 use answers::Answer;
 
 // A registration place; it is used exactly if its key is not 0.

@@ -1,0 +1,45 @@
+-- What the search over the places looks for, and what the change of all of them does: names for questions and changes of `Places`.
+-- Assumes nothing.
+use mathlib.Core.Bool.{Bool, true, false, not, _&&_, cond}
+use mathlib.Core.List.{List, [], _∷_}
+use Prim.Native.Nat.{ℕ, suc}
+use lib.Dec.{eqb}
+use Rattle.answers.specs.Order.{Row, first, ifGood}
+use Rattle.reservations.specs.declared.Place.{Place}
+use Rattle.reservations.specs.declared.Rights.{Rights}
+use Rattle.reservations.specs.declared.Decision.{Decision}
+use Rattle.reservations.specs.declared.places.Want.{Want}
+use Rattle.reservations.specs.declared.places.Want.the-variants.{Of, Keyed, Used, Free}
+use Rattle.reservations.specs.declared.places.Change.{Change}
+use Rattle.reservations.specs.declared.places.Change.the-variants.{Rekey, Remove, RemoveBut, Empty}
+use Rattle.reservations.specs.Places.{used, unused, isOf, registered, known, somebody, vacant, rekeyed, without, nobody, sender}
+
+-- is this place wanted
+unfoldable pub wants : Want → Place → Bool
+wants (Of n) p = isOf n p
+wants (Keyed k) p = used p && eqb (p .key) k
+wants Used p = used p
+wants Free p = not (used p)
+
+-- the first place wanted, or the number of places
+unfoldable pub seek : Want → List Place → ℕ
+seek w [] = 0
+seek w (p ∷ ps) = cond (wants w p) 0 (suc (seek w ps))
+
+-- the question that each search answers
+abbrev pub has : Want → List Place → Bool
+has (Of n) ps = registered n ps
+has (Keyed k) ps = known k ps
+has Used ps = somebody ps
+has Free ps = vacant ps
+
+-- a place after a change
+abbrev pub after : Change → Place → Place
+after (Rekey n k) = rekeyed n k
+after (Remove k) = without nobody k
+after (RemoveBut k n) = without (sender n) k
+after Empty = λ p. unused
+
+-- what an order of tests decides: a refusal leaves the rights as they are
+unfoldable pub settles : List Row → Rights → Rights → Decision
+settles rows done kept = record { answer = first rows; rights = ifGood (first rows) done kept }

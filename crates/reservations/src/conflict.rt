@@ -1,0 +1,43 @@
+// The conflict rule.
+ghost use mathlib.Core.Path.{_≡_};
+ghost use Rattle.reservations.specs.Conflict.{passes, stops, conflict};
+use crate::Access;
+use crate::Rights;
+use crate::kinds;
+use crate::places;
+use crate::places::Want;
+use crate::standing;
+
+// Whether the reservation does not stop a nexus, whatever it wants.
+fn passes(rights: Rights, nexus: u8) -> bool
+    ensures { λ r. ⌜ r ≡ passes rights nexus ⌝ }
+{
+    if standing::holds(rights, nexus) {
+        return true;
+    }
+    if kinds::registrants_pass(rights.kind) {
+        let places = rights.places;
+        return places::has(places, Want::Of(nexus));
+    }
+    false
+}
+
+// Whether a type stops others from this access.
+fn stops(kind: u8, access: Access) -> bool
+    ensures { λ r. ⌜ r ≡ stops kind access ⌝ }
+{
+    match access {
+        Access::Reads => kinds::stops_reading(kind),
+        Access::Writes => !(kind == 0),
+    }
+}
+
+// Whether the reservation stops a nexus from this access.
+pub fn conflicts(rights: Rights, nexus: u8, access: Access) -> bool
+    ensures { λ r. ⌜ r ≡ conflict rights nexus access ⌝ }
+{
+    if stops(rights.kind, access) {
+        return !passes(rights, nexus);
+    }
+    false
+}

@@ -1,0 +1,44 @@
+// The types of a reservation.
+ghost use mathlib.Core.Path.{_≡_};
+ghost use mathlib.Core.List.{[], _∷_};
+ghost use Rattle.reservations.specs.Rights.{isOneOf, oneHolds, allHold};
+
+// Whether one nexus holds.
+pub fn one_holds(kind: u8) -> bool
+    ensures { λ r. ⌜ r ≡ oneHolds kind ⌝ }
+{
+    match kind {
+        1 | 3 | 5 | 6 => true,
+        0 | 2 | 4 | 7..=255 => false,
+    }
+}
+
+// Whether every registered nexus holds.
+pub fn all_hold(kind: u8) -> bool
+    ensures { λ r. ⌜ r ≡ allHold kind ⌝ }
+{
+    match kind {
+        7 | 8 => true,
+        0..=6 | 9..=255 => false,
+    }
+}
+
+// Whether registered nexuses pass beside the holder.
+pub fn registrants_pass(kind: u8) -> bool
+    ensures { λ r. ⌜ r ≡ isOneOf kind (5 ∷ 6 ∷ []) ⌝ }
+{
+    match kind {
+        5 | 6 => true,
+        0..=4 | 7..=255 => false,
+    }
+}
+
+// Whether others may not even read.
+pub fn stops_reading(kind: u8) -> bool
+    ensures { λ r. ⌜ r ≡ isOneOf kind (3 ∷ 6 ∷ 8 ∷ []) ⌝ }
+{
+    match kind {
+        3 | 6 | 8 => true,
+        0..=2 | 4..=5 | 7 | 9..=255 => false,
+    }
+}

@@ -1,0 +1,158 @@
+// The registration places: one search that answers every question, one change that serves every action.
+ghost use mathlib.Core.Path.{_≡_};
+ghost use mathlib.Core.Bool.{_&&_, not};
+ghost use mathlib.Core.List.{map};
+ghost use Prim.Native.Nat.{_+_, _≤_, _<_};
+ghost use lib.ListN.{getD, drop};
+ghost use Rattle.reservations.specs.Places.{used, unused, registered, keyOf, enrol};
+ghost use Rattle.reservations.specs.Rights.{placeOk, placesApart};
+ghost use Rattle.reservations.specs.Search.{wants, seek, has, after};
+use crate::Place;
+
+// What a place is looked for by: its nexus, its key, that it is used, that it is free.
+pub enum Want {
+    Of(u8),
+    Keyed(u64),
+    Used,
+    Free,
+}
+
+fn wanted(place: Place, want: Want) -> bool
+    ensures { λ r. ⌜ r ≡ wants want place ⌝ }
+{
+    match want {
+        Want::Of(nexus) => if place.key == 0 { false } else { place.nexus == nexus },
+        Want::Keyed(key) => if place.key == 0 { false } else { place.key == key },
+        Want::Used => !(place.key == 0),
+        Want::Free => place.key == 0,
+    }
+}
+
+// The first place wanted, from a place on; 8 where there is none.
+fn seek_from(places: [Place; 8], want: Want, from: usize) -> usize
+    requires { ⌜ from ≤ 8 ⌝ }
+    ensures { λ r. ⌜ r ≡ from + seek want (drop from places) ⌝ }
+{
+    let mut i = from;
+    while i < 8 {
+        if wanted(places[i], want) {
+            return i;
+        }
+        i = i + 1;
+    }
+    8
+}
+
+// The first place wanted; 8 where there is none.
+fn seek(places: [Place; 8], want: Want) -> usize
+    ensures { λ r. ⌜ r ≡ seek want places ⌝ }
+{
+    seek_from(places, want, 0)
+}
+
+// Whether there is a place wanted, from a place on.
+fn has_from(places: [Place; 8], want: Want, from: usize) -> bool
+    requires { ⌜ from ≤ 8 ⌝ }
+    ensures { λ r. ⌜ r ≡ has want (drop from places) ⌝ }
+{
+    seek_from(places, want, from) < 8
+}
+
+// Whether there is a place wanted.
+pub fn has(places: [Place; 8], want: Want) -> bool
+    ensures { λ r. ⌜ r ≡ has want places ⌝ }
+{
+    has_from(places, want, 0)
+}
+
+// The key of a nexus; 0 where it is not registered.
+pub fn key_of(places: [Place; 8], nexus: u8) -> u64
+    ensures { λ r. ⌜ r ≡ keyOf nexus places ⌝ }
+{
+    let i = seek(places, Want::Of(nexus));
+    if i < 8 { places[i].key } else { 0 }
+}
+
+// The lowest free place given to a nexus.
+pub fn enrol(places: [Place; 8], nexus: u8, key: u64) -> [Place; 8]
+    ensures { λ r. ⌜ r ≡ enrol nexus key places ⌝ }
+{
+    let i = seek(places, Want::Free);
+    let mut after = places;
+    if i < 8 {
+        after[i] = Place { nexus, key };
+    }
+    after
+}
+
+// What is done to every place: the key of a nexus changed (0 unregisters), all with a key removed, all but a nexus, or all emptied.
+pub enum Change {
+    Rekey(u8, u64),
+    Remove(u64),
+    RemoveBut(u64, u8),
+    Empty,
+}
+
+fn changed(place: Place, change: Change) -> Place
+    ensures { λ r. ⌜ r ≡ after change place ⌝ }
+{
+    let none = Place { nexus: 0, key: 0 };
+    match change {
+        Change::Rekey(nexus, key) => {
+            if !wanted(place, Want::Of(nexus)) {
+                return place;
+            }
+            if key == 0 { none } else { Place { nexus, key } }
+        }
+        Change::Remove(key) => if place.key == key { none } else { place },
+        Change::RemoveBut(key, nexus) => {
+            if place.nexus == nexus {
+                return place;
+            }
+            if place.key == key { none } else { place }
+        }
+        Change::Empty => none,
+    }
+}
+
+// Every place changed.
+pub fn change_all(places: [Place; 8], by: Change) -> [Place; 8]
+    ensures { λ r. ⌜ r ≡ map (after by) places ⌝ }
+{
+    let mut all = places;
+    let mut i: usize = 0;
+    while i < 8 {
+        all[i] = changed(all[i], by);
+        i = i + 1;
+    }
+    all
+}
+
+// Whether a place holds what it may, and no later one its nexus.
+fn sound(places: [Place; 8], i: usize) -> bool
+    requires { ⌜ i < 8 ⌝ }
+    ensures { λ r. ⌜ r ≡ (placeOk (getD places i unused) && not (used (getD places i unused) && registered (getD places i unused .nexus) (drop (i + 1) places))) ⌝ }
+{
+    let place = places[i];
+    if place.key == 0 {
+        return place.nexus == 0;
+    }
+    if 15 < place.nexus {
+        return false;
+    }
+    !has_from(places, Want::Of(place.nexus), i + 1)
+}
+
+// Whether the used places have different nexuses up to 15, and the unused ones hold zeros.
+pub fn apart(places: [Place; 8]) -> bool
+    ensures { λ r. ⌜ r ≡ placesApart places ⌝ }
+{
+    let mut i: usize = 0;
+    while i < 8 {
+        if !sound(places, i) {
+            return false;
+        }
+        i = i + 1;
+    }
+    true
+}

@@ -638,6 +638,7 @@ void generate_rare(struct random *random, const struct store *store,
         nexus = store->state[RIDGE_WORD_HOLDER];
     generate_reserve_out(random, store, nexus, request);
     request->cdb[1] = (uint8_t)(release ? 2 : RANDOM_CHOICE(random, 0, 6));
-    if (random_percent(random, 85))
-        put(request->data_out, 8, key_of(store->state, nexus));
+    put(request->data_out, 8, random_percent(random, 85)
+                                  ? key_of(store->state, nexus)
+                                  : generate_key(random));
 }

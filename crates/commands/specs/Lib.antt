@@ -4,3 +4,5 @@ pub mod Move
 pub mod Alter
 pub mod Step
 pub mod Fresh
+pub mod Contract
+pub mod Parts

@@ -1,0 +1,31 @@
+-- What the contracts speak of: the store and the call that the lent buffers make, and what is left of them.
+-- Assumes nothing.
+use mathlib.Core.Path.{_≡_}
+use mathlib.Core.List.{List, []}
+use Prim.Native.Nat.{ℕ, _*_, _^_, _≤_}
+use lib.ListN.{length}
+use Rattle.map.specs.Write.{pool}
+use Rattle.commands.specs.declared.Unit.{Unit}
+use Rattle.commands.specs.declared.Outcome.{Outcome}
+use Rattle.commands.specs.declared.Made.{Made}
+use Rattle.commands.specs.Store.{Store, Call, Result}
+use Rattle.commands.specs.Fresh.{FreshResult}
+
+-- the store of a unit and the pool that is lent to it
+abbrev pub storeOf : Unit → List ℕ → List ℕ → Store
+storeOf unit owners medium = record { unit = unit; pool = pool owners medium }
+
+abbrev pub callOf : ℕ → List ℕ → List ℕ → List ℕ → List ℕ → Call
+callOf nexus cdb dataOut dataIn sense =
+    record { nexus = nexus; cdb = cdb; dataOut = dataOut; dataIn = dataIn; sense = sense }
+
+-- all that a call leaves
+abbrev pub left : Outcome → List ℕ → List ℕ → List ℕ → List ℕ → Result
+left r owners medium dataIn sense = record {
+  seen = record { answer = r .answer; returned = r .returned; dataIn = dataIn; sense = sense };
+  store = storeOf (r .unit) owners medium;
+}
+
+-- all that making a fresh store leaves
+abbrev pub made : Made → List ℕ → FreshResult
+made r owners = record { answer = r .answer; unit = r .unit; owners = owners }

@@ -1,0 +1,80 @@
+// The first tests of every call: who calls, what is lent, and whether the store is within its bounds and valid.
+ghost use mathlib.Core.Path.{_≡_};
+ghost use mathlib.Core.List.{[]};
+ghost use Rattle.map.specs.Write.{pool};
+ghost use Rattle.map.specs.Valid.{capacityOk, slotsOk, mapOk, poolOk};
+ghost use Rattle.commands.specs.Store.{unitOk};
+ghost use Rattle.commands.specs.Contract.{storeOf, callOf};
+ghost use Rattle.commands.specs.Parts.{readyFor};
+use crate::Unit;
+use map::Checked;
+
+pub fn capacity_ok(capacity: u64) -> bool
+    ensures { λ r. ⌜ r ≡ capacityOk capacity ⌝ }
+{
+    if capacity < 1 {
+        return false;
+    }
+    capacity <= 0x100_0000_0000
+}
+
+pub fn slots_ok(slots: usize) -> bool
+    ensures { λ r. ⌜ r ≡ slotsOk slots ⌝ }
+{
+    if slots < 1 {
+        return false;
+    }
+    slots <= 128
+}
+
+fn map_ok(capacity: u64, owners: &[u64]) -> bool
+    ensures { λ r. ⌜ r ≡ mapOk capacity (now (owners .entry)) ⌝ }
+{
+    let checked = map::check::check(capacity, owners);
+    match checked {
+        Checked::Valid => true,
+        Checked::Beyond(_) => false,
+        Checked::Clash(_, _) => false,
+    }
+}
+
+fn unit_ok(unit: Unit) -> bool
+    ensures { λ r. ⌜ r ≡ unitOk unit ⌝ }
+{
+    if !capacity_ok(unit.capacity) {
+        return false;
+    }
+    let rights = unit.rights;
+    reservations::standing::valid(rights)
+}
+
+fn pool_ok(capacity: u64, owners: &[u64], medium: &[u8]) -> bool
+    ensures { λ r. ⌜ r ≡ poolOk capacity (pool (now (owners .entry)) (now (medium .entry))) ⌝ }
+{
+    if !slots_ok(owners.len()) {
+        return false;
+    }
+    if medium.len() != 512 * owners.len() {
+        return false;
+    }
+    map_ok(capacity, owners)
+}
+
+// Whether nothing refuses the call before its command is looked at. The whole state is checked, once, and last.
+pub fn ready(unit: Unit, owners: &[u64], medium: &[u8], nexus: u8, cdb: &[u8], sense: &[u8]) -> bool
+    ensures { λ r. ⌜ r ≡ readyFor (storeOf unit (now (owners .entry)) (now (medium .entry))) (callOf nexus (now (cdb .entry)) [] [] (now (sense .entry))) ⌝ }
+{
+    if 15 < nexus {
+        return false;
+    }
+    if cdb.len() == 0 {
+        return false;
+    }
+    if sense.len() < 18 {
+        return false;
+    }
+    if !unit_ok(unit) {
+        return false;
+    }
+    pool_ok(unit.capacity, owners, medium)
+}

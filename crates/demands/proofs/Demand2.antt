@@ -1,0 +1,41 @@
+-- Demand 2, proved of `step`; a promise of it admits no second outcome; and a build that meets it meets the other two.
+-- Assumes nothing.
+use mathlib.Core.Path.{_≡_, refl, sym, ap, _∙_, subst, fun-ext}
+use mathlib.Core.List.{List}
+use Prim.Native.Nat.{ℕ}
+use Rattle.commands.specs.Store.{Store, Call, Result}
+use Rattle.commands.specs.Step.{step}
+use Rattle.commands.specs.Fresh.{FreshResult, fresh}
+use Rattle.demands.specs.History.{Build}
+use Rattle.demands.specs.Demands.{Demand1, Demand2, Demand3}
+use Rattle.demands.proofs.CasesPass.{cases-pass}
+use Rattle.demands.proofs.Generation.{generation-rises, generation-stays}
+use Rattle.demands.proofs.Demand1.{demand-1}
+use Rattle.demands.proofs.Demand3.{demand-3}
+
+pub demand-2 : Demand2 step
+demand-2 = record { exact = λ s c. refl; bench = cases-pass; generation-rises = generation-rises; generation-stays = generation-stays }
+
+-- ---- "show that no second outcome satisfies it"
+
+-- whatever is promised by an equation with `step` is promised once
+pub once : (s : Store) (c : Call) (o o′ : Result) → o ≡ step s c → o′ ≡ step s c → o ≡ o′
+once s c o o′ e e′ = e ∙ sym e′
+
+pub fresh-once : (capacity : ℕ) (owners : List ℕ) (o o′ : FreshResult) → o ≡ fresh capacity owners → o′ ≡ fresh capacity owners → o ≡ o′
+fresh-once capacity owners o o′ e e′ = e ∙ sym e′
+
+-- ---- what holds of `step` holds of every build that is exact
+
+-- there is one such build
+pub exact-one : (f : Build) → ((s : Store) (c : Call) → f s c ≡ step s c) → f ≡ step
+exact-one f e = fun-ext (λ s. fun-ext (λ c. e s c))
+
+pub exact-meets-1 : (f : Build) → ((s : Store) (c : Call) → f s c ≡ step s c) → Demand1 f
+exact-meets-1 f e = subst Demand1 (sym (exact-one f e)) demand-1
+
+pub exact-meets-2 : (f : Build) → ((s : Store) (c : Call) → f s c ≡ step s c) → Demand2 f
+exact-meets-2 f e = subst Demand2 (sym (exact-one f e)) demand-2
+
+pub exact-meets-3 : (f : Build) → ((s : Store) (c : Call) → f s c ≡ step s c) → Demand3 f
+exact-meets-3 f e = subst Demand3 (sym (exact-one f e)) demand-3

@@ -1,0 +1,10 @@
+pub mod Computing
+pub mod Parts
+pub mod Usable
+pub mod Demand1
+pub mod Demand3
+pub mod CasesPass
+pub mod UselessFail
+pub mod Witness
+pub mod Generation
+pub mod Demand2

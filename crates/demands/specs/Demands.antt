@@ -1,0 +1,61 @@
+-- The three demands, of any build; proofs/Demand1, Demand2 and Demand3 prove them of `step`.
+-- Assumes nothing.
+use mathlib.Core.Path.{_≡_}
+use mathlib.Core.Logic.{_≢_}
+use mathlib.Core.Bool.{not}
+use mathlib.Core.List.{List, [], _∷_}
+use Prim.Native.Nat.{ℕ, _+_, _%_, _^_}
+use lib.Dec.{T}
+use lib.ListN.{length, drop}
+use Rattle.answers.specs.declared.Answer.the-variants.{Good}
+use Rattle.answers.specs.Answers.{numberOf, senseAfter}
+use Rattle.reservations.specs.Rights.{isOneOf}
+use Rattle.commands.specs.Store.{Store, Call, usable}
+use Rattle.commands.specs.Step.{step}
+use Rattle.demands.specs.History.{Build, after, isOut, isShutOut, watched, heard}
+use Rattle.demands.specs.Cases.{allPassed, cases}
+use Rattle.demands.specs.Generation.{generation, raising}
+
+-- Demand 1. "Every call ends and gets a listed answer. A refused command leaves the medium, the map, the reservations and the data buffer unchanged."
+pub record Demand1 (f : Build) : Type 0 where
+  -- "Number 9 is not used"
+  pub listed : (s : Store) (c : Call) → T (isOneOf (numberOf (f s c .seen .answer)) (0 ∷ 1 ∷ 2 ∷ 3 ∷ 4 ∷ 5 ∷ 6 ∷ 7 ∷ 8 ∷ 10 ∷ 11 ∷ 12 ∷ []))
+  -- a valid store, within its bounds and lent its whole pool, stays one
+  pub keeps : (s : Store) (c : Call) → T (usable s) → T (usable (after f s c))
+  -- a refusal changes nothing stored, no byte of data-in, and returns none
+  pub refusal-store : (s : Store) (c : Call) → f s c .seen .answer ≢ Good → after f s c ≡ s
+  pub refusal-data : (s : Store) (c : Call) → f s c .seen .answer ≢ Good → f s c .seen .dataIn ≡ c .dataIn
+  pub refusal-none : (s : Store) (c : Call) → f s c .seen .answer ≢ Good → f s c .seen .returned ≡ 0
+  -- sense changes by the table of answers alone, and only its first 18 bytes
+  pub sense-table : (s : Store) (c : Call) → f s c .seen .sense ≡ senseAfter (f s c .seen .answer) (c .sense)
+  pub sense-past : (s : Store) (c : Call) → drop 18 (f s c .seen .sense) ≡ drop 18 (c .sense)
+  -- "Data-in is written only on 0, and only its first returned bytes."
+  pub data-past : (s : Store) (c : Call) → drop (f s c .seen .returned) (f s c .seen .dataIn) ≡ drop (f s c .seen .returned) (c .dataIn)
+  -- what is lent keeps its length
+  pub data-length : (s : Store) (c : Call) → length (f s c .seen .dataIn) ≡ length (c .dataIn)
+  pub sense-length : (s : Store) (c : Call) → length (f s c .seen .sense) ≡ length (c .sense)
+  pub owners-length : (s : Store) (c : Call) → length (after f s c .pool .owners) ≡ length (s .pool .owners)
+  pub medium-length : (s : Store) (c : Call) → length (after f s c .pool .medium) ≡ length (s .pool .medium)
+
+-- Demand 2. Answer, state and every lent byte are what document 01 says: its meaning is `step`.
+pub record Demand2 (f : Build) : Type 0 where
+  pub exact : (s : Store) (c : Call) → f s c ≡ step s c
+  -- "A to L are proved of the definitions by one statement over their list"
+  pub bench : T (allPassed f cases)
+  -- "Generation rises by 1 at each GOOD of actions 0, 3, 4, 6, save …; after FFFF_FFFFh the generation is 0", and at nothing else
+  pub generation-rises : (s : Store) (c : Call) → f s c .seen .answer ≡ Good → T (raising s c)
+      → generation (after f s c) ≡ (generation s + 1) % 2 ^ 32
+  pub generation-stays : (s : Store) (c : Call) → T (not (raising s c)) → generation (after f s c) ≡ generation s
+
+-- Demand 3. What a nexus learns that is shut out from reading.
+pub record Demand3 (f : Build) : Type 0 where
+  -- "Take two valid stores, within their bounds and lent their whole pool at every call, of equal capacity and equal registrations (place by
+  -- place), reservation and generation; their blocks and maps may differ. Run a history on each, with the same reservation-out calls and the same
+  -- calls by nexuses then shut out from reading, in the same order and with the same lent data and sense buffers. All other calls may differ.
+  -- Then each shut-out call gives the same answer, sense and buffer in both."
+  pub secret : (s t : Store) (cs ds : List Call) → T (usable s) → T (usable t) → s .unit ≡ t .unit
+      → watched f s cs ≡ watched f t ds → heard f s cs ≡ heard f t ds
+  -- "Apart from reservation-out calls, a shut-out call changes no stored thing"
+  pub still : (s : Store) (c : Call) → T (not (isOut c)) → T (isShutOut s c) → after f s c ≡ s
+  -- "and a reservation-out call never changes a block or a mapping."
+  pub out-pool : (s : Store) (c : Call) → T (isOut c) → after f s c .pool ≡ s .pool

@@ -1,0 +1,27 @@
+-- When the generation rises, as a call shows it.
+-- Assumes nothing.
+use mathlib.Core.Bool.{Bool, not, _&&_}
+use mathlib.Core.List.{[], _∷_}
+use Prim.Native.Nat.{ℕ}
+use lib.Dec.{eqb}
+use Rattle.fields.specs.Field.{field}
+use Rattle.reservations.specs.Places.{registered}
+use Rattle.reservations.specs.Rights.{isOneOf}
+use Rattle.forms.specs.Forms.{action}
+use Rattle.commands.specs.Store.{Store, Call}
+use Rattle.demands.specs.History.{isOut}
+
+unfoldable pub generation : Store → ℕ
+generation s = s .unit .rights .generation
+
+-- "service action key 8-15"
+unfoldable pub serviceKey : Call → ℕ
+serviceKey c = field 8 8 (c .dataOut)
+
+-- "an unregistered nexus sends service action key 0 in 0 or 6"
+unfoldable pub idle : Store → Call → Bool
+idle s c = isOneOf (action (c .cdb)) (0 ∷ 6 ∷ []) && not (registered (c .nexus) (s .unit .rights .places)) && eqb (serviceKey c) 0
+
+-- "actions 0, 3, 4, 6, save where" it is so
+unfoldable pub raising : Store → Call → Bool
+raising s c = isOut c && (isOneOf (action (c .cdb)) (0 ∷ 3 ∷ 4 ∷ 6 ∷ []) && not (idle s c))

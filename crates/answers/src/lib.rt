@@ -29,56 +29,88 @@ pub enum Status {
 pub fn not_listed() -> Answer
     ensures { λ r. ⌜ r ≡ notListed ⌝ }
 {
-    Answer::Refused(Sense { key: 0x05, asc: 0x20, ascq: 0x00 })
+    Answer::Refused(Sense {
+        key: 0x05,
+        asc: 0x20,
+        ascq: 0x00,
+    })
 }
 
 // 2: a field of the CDB.
 pub fn invalid_field() -> Answer
     ensures { λ r. ⌜ r ≡ invalidField ⌝ }
 {
-    Answer::Refused(Sense { key: 0x05, asc: 0x24, ascq: 0x00 })
+    Answer::Refused(Sense {
+        key: 0x05,
+        asc: 0x24,
+        ascq: 0x00,
+    })
 }
 
 // 3: block address + count > capacity.
 pub fn out_of_range() -> Answer
     ensures { λ r. ⌜ r ≡ outOfRange ⌝ }
 {
-    Answer::Refused(Sense { key: 0x05, asc: 0x21, ascq: 0x00 })
+    Answer::Refused(Sense {
+        key: 0x05,
+        asc: 0x21,
+        ascq: 0x00,
+    })
 }
 
 // 4: parameter list length.
 pub fn list_length() -> Answer
     ensures { λ r. ⌜ r ≡ listLength ⌝ }
 {
-    Answer::Refused(Sense { key: 0x05, asc: 0x1A, ascq: 0x00 })
+    Answer::Refused(Sense {
+        key: 0x05,
+        asc: 0x1A,
+        ascq: 0x00,
+    })
 }
 
 // 5: a field of the parameter list.
 pub fn list_field() -> Answer
     ensures { λ r. ⌜ r ≡ listField ⌝ }
 {
-    Answer::Refused(Sense { key: 0x05, asc: 0x26, ascq: 0x00 })
+    Answer::Refused(Sense {
+        key: 0x05,
+        asc: 0x26,
+        ascq: 0x00,
+    })
 }
 
 // 6: new registration, all 8 places used.
 pub fn no_place() -> Answer
     ensures { λ r. ⌜ r ≡ noPlace ⌝ }
 {
-    Answer::Refused(Sense { key: 0x05, asc: 0x55, ascq: 0x04 })
+    Answer::Refused(Sense {
+        key: 0x05,
+        asc: 0x55,
+        ascq: 0x04,
+    })
 }
 
 // 7: holder's RELEASE names another type.
 pub fn other_type() -> Answer
     ensures { λ r. ⌜ r ≡ otherType ⌝ }
 {
-    Answer::Refused(Sense { key: 0x05, asc: 0x26, ascq: 0x04 })
+    Answer::Refused(Sense {
+        key: 0x05,
+        asc: 0x26,
+        ascq: 0x04,
+    })
 }
 
 // 8: more unmapped blocks in a write than free slots.
 pub fn no_room() -> Answer
     ensures { λ r. ⌜ r ≡ noRoom ⌝ }
 {
-    Answer::Refused(Sense { key: 0x07, asc: 0x27, ascq: 0x07 })
+    Answer::Refused(Sense {
+        key: 0x07,
+        asc: 0x27,
+        ascq: 0x07,
+    })
 }
 
 // The number of each answer.

@@ -1,10 +1,11 @@
 -- The cases, by computation: `step` meets them all, and the useless builds fail A, E and H.
 -- Assumes nothing.
-use mathlib.Core.Bool.{Bool, not, _&&_}
-use mathlib.Core.List.{[], _∷_}
+use mathlib.Core.Bool.{not, _&&_}
 use lib.Dec.{T}
 use Rattle.commands.specs.Step.{step}
-use Rattle.demands.specs.Cases.{passed, allPassed, cases, furtherCases, caseA, caseE, caseH}
+use Rattle.demands.specs.Checker.{passed, allPassed}
+use Rattle.demands.specs.Cases.{cases, caseA, caseE, caseH}
+use Rattle.demands.specs.FurtherCases.{furtherCases}
 use Rattle.demands.specs.Useless.{blind, unmoved, constant, refusing, leaving}
 use Rattle.demands.proofs.Computing.{meaning}
 

@@ -1,17 +1,16 @@
 -- Demand 1, proved of `step`: every answer is listed, a refusal changes nothing, and buffers change only where they may.
 -- Assumes nothing.
-use mathlib.Core.Path.{_≡_, refl, sym, ap, _∙_, subst}
+use mathlib.Core.Path.{_≡_, refl}
 use mathlib.Core.Logic.{_≢_}
-use mathlib.Core.Bool.{Bool, true, false, not, _&&_}
+use mathlib.Core.Bool.{Bool, true, false, _&&_}
 use mathlib.Core.List.{List, [], _∷_, _++_}
-use Prim.Native.Nat.{ℕ, zero, suc}
+use Prim.Native.Nat.{ℕ}
 use native.Mathlib.Omega.{arith}
 use lib.Dec.{T}
 use lib.ListN.{length, drop}
 use Rattle.fields.specs.Bytes.{put}
 use Rattle.fields.proofs.BytesLaws.{length-put, drop-put}
 use Rattle.fields.proofs.Tests.{and-l, and-r, both}
-use Rattle.answers.specs.declared.Sense.{Sense}
 use Rattle.answers.specs.declared.Answer.{Answer}
 use Rattle.answers.specs.declared.Answer.the-variants.{Good, Refused, Conflict, Unusable, Short}
 use Rattle.answers.specs.Answers.{senses, sameSense, rowOf, numberOf, fixedFormat, senseAfter}
@@ -30,7 +29,7 @@ use Rattle.forms.specs.declared.Kind.the-variants.{Tells, Moves, Alters, Unknow
 use Rattle.forms.specs.declared.Form.{Form}
 use Rattle.forms.specs.Forms.{formOf}
 use Rattle.forms.specs.Tests.{inquiryRows, transferRows, unmapRows, typeRows, fieldRows, formRows}
-use Rattle.commands.specs.Store.{Store, Call, Seen, Result, seenOf}
+use Rattle.commands.specs.Store.{Store, Call, seenOf}
 use Rattle.commands.specs.Tell.{tellRows}
 use Rattle.commands.specs.Move.{rangeRows, moveRows}
 use Rattle.commands.specs.Alter.{alterRows}

@@ -7,14 +7,21 @@ use Rattle.commands.specs.Store.{Store, Call, Result}
 use Rattle.commands.specs.Step.{step}
 use Rattle.commands.specs.Fresh.{FreshResult, fresh}
 use Rattle.demands.specs.History.{Build}
+use Rattle.demands.specs.Generation.{generation}
 use Rattle.demands.specs.Demands.{Demand1, Demand2, Demand3}
 use Rattle.demands.proofs.CasesPass.{cases-pass}
 use Rattle.demands.proofs.Generation.{generation-rises, generation-stays}
-use Rattle.demands.proofs.Demand1.{demand-1}
+use Rattle.demands.proofs.Demand1.{refused-store, demand-1}
 use Rattle.demands.proofs.Demand3.{demand-3}
 
 pub demand-2 : Demand2 step
-demand-2 = record { exact = λ s c. refl; bench = cases-pass; generation-rises = generation-rises; generation-stays = generation-stays }
+demand-2 = record {
+  exact = λ s c. refl;
+  bench = cases-pass;
+  generation-rises = generation-rises;
+  generation-stays = generation-stays;
+  generation-refused = λ s c d. ap generation (refused-store s c d);
+}
 
 -- ---- "show that no second outcome satisfies it"
 

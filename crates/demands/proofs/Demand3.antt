@@ -1,18 +1,19 @@
 -- Demand 3, proved of `step`: what a nexus learns that is shut out from reading.
 -- Assumes nothing.
 use mathlib.Core.Path.{_≡_, refl, sym, ap, ap₂, _∙_, subst}
-use mathlib.Core.Bool.{Bool, true, false, not, _&&_, _||_}
+use mathlib.Core.Bool.{Bool, true, false, not}
 use mathlib.Core.List.{List, [], _∷_}
 use Prim.Native.Nat.{ℕ, zero, suc}
-use lib.Dec.{T, eqb, leb, eqb·suc-zero, leb·zero}
+use lib.Dec.{T, eqb, eqb·suc-zero}
 use Rattle.fields.specs.Bytes.{zeros}
 use Rattle.fields.specs.Field.{byte}
-use Rattle.fields.proofs.Tests.{and-l, both, and-map, or-other, nor-l, not-not-intro, not-map, true→T, false→T}
+use Rattle.fields.proofs.Tests.{and-map, or-l, or-other, nor-l, not-not-intro, not-map, true→T, false→T}
 use Rattle.answers.specs.declared.Answer.{Answer}
 use Rattle.answers.specs.declared.Answer.the-variants.{Good, Refused, Conflict, Unusable, Short}
 use Rattle.answers.specs.Order.{first, ifGood}
 use Rattle.answers.proofs.OrderLaws.{refuses, row-stop, if-refused}
 use Rattle.map.specs.Valid.{slotsOk}
+use Rattle.map.proofs.Held.{T-true}
 use Rattle.map.proofs.Keeping.{poolOk-of, mapOk-zeros}
 use Rattle.reservations.specs.declared.Rights.{Rights}
 use Rattle.reservations.specs.declared.Access.{Access}
@@ -27,7 +28,7 @@ use Rattle.forms.specs.declared.Form.{Form}
 use Rattle.forms.specs.Forms.{formOf}
 use Rattle.forms.proofs.Table.{isMoves, isAlters, alters-code, moves-code}
 use Rattle.commands.specs.declared.Unit.{Unit}
-use Rattle.commands.specs.Store.{Store, Call, Seen, Result, unitOk, usable, seenOf}
+use Rattle.commands.specs.Store.{Store, Call, Seen, usable, seenOf}
 use Rattle.commands.specs.Tell.{told, tellRows}
 use Rattle.commands.specs.Move.{access, moveRows}
 use Rattle.commands.specs.Alter.{orderOf, alterRows}
@@ -62,11 +63,7 @@ shut-all r n a t = and-map (stops (r .kind) Reads) (stops (r .kind) a) (not (pas
 -- a guarded call by a nexus that is shut out meets the conflict
 move-stops : (f : Form) (m : Move) (s : Store) (c : Call) → T (isShutOut s c) → first (ownRows f (Moves m) s c) ≡ Conflict
 unfolding ownRows moveRows isShutOut
-move-stops f m s c h = row-stop Conflict _ _ (T-is _ (shut-all (s .unit .rights) (c .nexus) (access m) h))
-  where
-    T-is : (b : Bool) → T b → b ≡ true
-    T-is true t = refl
-    T-is false t = absurd t
+move-stops f m s c h = row-stop Conflict _ _ (T-true _ (shut-all (s .unit .rights) (c .nexus) (access m) h))
 
 move-refused : (f : Form) (m : Move) (s : Store) (c : Call) → T (isShutOut s c) → T (refuses (answerAs f (Moves m) s c))
 unfolding refuses
@@ -172,6 +169,16 @@ module _ (s t : Store) (c : Call) (u : T (usable s)) (v : T (usable t)) (e : s .
   kept-unit =
       unit-same (formOf (c .cdb)) s t c e (formOf (c .cdb) .kind) (answerBy (formOf (c .cdb)) s c)
       ∙ ap (λ (a : Answer). ifGood a (storeBy (formOf (c .cdb)) (formOf (c .cdb) .kind) t c) t .unit) same-answer
+
+-- a reservation-out call acts on the unit alone, by the call alone
+pub out-seen : (s t : Store) (c : Call) → T (usable s) → T (usable t) → s .unit ≡ t .unit → T (isOut c) → step s c .seen ≡ step t c .seen
+unfolding kept
+out-seen s t c u v e o = kept-seen s t c u v e (or-l (isOut c) (isShutOut s c) o)
+
+pub out-unit : (s t : Store) (c : Call) → T (usable s) → T (usable t) → s .unit ≡ t .unit → T (isOut c)
+    → after step s c .unit ≡ after step t c .unit
+unfolding kept
+out-unit s t c u v e o = kept-unit s t c u v e (or-l (isOut c) (isShutOut s c) o)
 
 -- any call but a reservation-out leaves the unit
 pub other-unit : (s : Store) (c : Call) → T (not (isOut c)) → after step s c .unit ≡ s .unit

@@ -1,20 +1,14 @@
 -- The generation at the level of a call: it rises exactly at a GOOD of actions 0, 3, 4, 6, with 01's one exception.
 -- Assumes nothing.
 use mathlib.Core.Path.{_≡_, refl, sym, ap, _∙_, subst}
-use mathlib.Core.Logic.{_≢_}
-use mathlib.Core.Bool.{Bool, true, false, not, _&&_, _||_, cond, true≢false}
-use mathlib.Core.List.{List, [], _∷_}
+use mathlib.Core.Bool.{Bool, true, false, not, _&&_, _||_, cond}
 use Prim.Native.Nat.{ℕ, _+_, _%_, _^_}
 use borrow.Author.Tests.{eqb-true}
-use lib.Dec.{T, eqb, eqb→eq, T-not}
-use Rattle.fields.specs.Field.{byte, field}
-use Rattle.fields.proofs.Tests.{and-l, and-r, nand-rest, test}
-use Rattle.answers.specs.declared.Answer.{Answer}
-use Rattle.answers.specs.declared.Answer.the-variants.{Good, Refused, Conflict, Unusable, Short}
-use Rattle.answers.specs.Order.{ifGood}
+use lib.Dec.{T, eqb, eqb→eq}
+use Rattle.fields.specs.Field.{byte}
+use Rattle.fields.proofs.Tests.{and-l, test}
+use Rattle.answers.specs.declared.Answer.the-variants.{Good}
 use Rattle.answers.proofs.OrderLaws.{if-good}
-use Rattle.reservations.specs.declared.Action.{Action}
-use Rattle.reservations.specs.declared.Action.the-variants.{Register, Reserve, Release, Clear, Preempt, RegisterIgnoring}
 use Rattle.reservations.specs.declared.Rights.{Rights}
 use Rattle.reservations.specs.declared.Order.{Order}
 use Rattle.reservations.specs.Places.{registered}
@@ -23,13 +17,14 @@ use Rattle.reservations.proofs.Generation.{raises, nextGeneration, acted-genera
 use Rattle.forms.specs.declared.Kind.{Kind}
 use Rattle.forms.specs.declared.Kind.the-variants.{Tells, Moves, Alters, Unknown, Unlisted}
 use Rattle.forms.specs.declared.Form.{Form}
-use Rattle.forms.specs.Forms.{form, span, absent, takes, lines, lookup, action, formFor, formOf}
+use Rattle.forms.specs.Forms.{form, absent, takes, lines, lookup, action, formFor, formOf}
+use Rattle.forms.proofs.Table.{taken, passed, lookup-passes}
 use Rattle.commands.specs.declared.Unit.{Unit}
 use Rattle.commands.specs.Store.{Store, Call, seenOf}
 use Rattle.commands.specs.Alter.{orderOf}
 use Rattle.commands.specs.Step.{answerBy, storeBy, stepBy, step}
 use Rattle.demands.specs.History.{after, isOut}
-use Rattle.demands.specs.Generation.{generation, serviceKey, idle, raising}
+use Rattle.demands.specs.Generation.{generation, serviceKey, actionRaises, raising}
 use Rattle.demands.proofs.Parts.{either-store}
 use Rattle.demands.proofs.Demand3.{other-unit}
 
@@ -54,10 +49,6 @@ done-generation f Unlisted s c = refl
 
 -- ---- the kind by the service action, in the table's lines of 5Fh
 
--- 01's sentence, of an action number
-abbrev saying : ℕ → Bool → Bool → Bool
-saying a known none = isOneOf a (0 ∷ 3 ∷ 4 ∷ 6 ∷ []) && not (isOneOf a (0 ∷ 6 ∷ []) && not known && none)
-
 save : (known none : Bool) → known || not none ≡ not (not known && none)
 save true true = refl
 save true false = refl
@@ -67,52 +58,44 @@ save false false = refl
 -- an action that no line of 5Fh has
 other-form : (a : ℕ) → eqb a 0 ≡ false → eqb a 1 ≡ false → eqb a 2 ≡ false → eqb a 3 ≡ false → eqb a 4 ≡ false → eqb a 6 ≡ false
     → formFor 0x5F a ≡ form Unknown 10 absent absent
-unfolding formFor lookup lines takes
-other-form a e0 e1 e2 e3 e4 e6 = go (eqb a 0) (eqb a 1) (eqb a 2) (eqb a 3) (eqb a 4) (eqb a 6) e0 e1 e2 e3 e4 e6
+unfolding formFor lines takes taken passed
+other-form a e0 e1 e2 e3 e4 e6 =
+    lookup-passes 0x5F a (form Unlisted 0 absent absent) lines (untaken (eqb a 0) (eqb a 1) (eqb a 2) (eqb a 3) (eqb a 4) (eqb a 6) e0 e1 e2 e3 e4 e6)
   where
-    go : (b0 b1 b2 b3 b4 b6 : Bool) → b0 ≡ false → b1 ≡ false → b2 ≡ false → b3 ≡ false → b4 ≡ false → b6 ≡ false
-        → elim b0 [ true ↦ form (Alters Register) 10 absent (span 5 4) | false ↦ elim b1 [ true ↦ form (Alters Reserve) 10 absent (span 5 4) | false ↦
-        elim b2 [ true ↦ form (Alters Release) 10 absent (span 5 4) | false ↦ elim b3 [ true ↦ form (Alters Clear) 10 absent (span 5 4) | false ↦
-        elim b4 [ true ↦ form (Alters Preempt) 10 absent (span 5 4) | false ↦ elim b6 [ true ↦ form (Alters RegisterIgnoring) 10 absent (span 5 4) | false ↦
-        form Unknown 10 absent absent ] ] ] ] ] ] ≡ form Unknown 10 absent absent
-    go true b1 b2 b3 b4 b6 e0 e1 e2 e3 e4 e6 = absurd (true≢false e0)
-    go false true b2 b3 b4 b6 e0 e1 e2 e3 e4 e6 = absurd (true≢false e1)
-    go false false true b3 b4 b6 e0 e1 e2 e3 e4 e6 = absurd (true≢false e2)
-    go false false false true b4 b6 e0 e1 e2 e3 e4 e6 = absurd (true≢false e3)
-    go false false false false true b6 e0 e1 e2 e3 e4 e6 = absurd (true≢false e4)
-    go false false false false false true e0 e1 e2 e3 e4 e6 = absurd (true≢false e6)
-    go false false false false false false e0 e1 e2 e3 e4 e6 = refl
+    untaken : (b0 b1 b2 b3 b4 b6 : Bool) → b0 ≡ false → b1 ≡ false → b2 ≡ false → b3 ≡ false → b4 ≡ false → b6 ≡ false
+        → (b0 || (b1 || (b2 || (b3 || (b4 || (b6 || false)))))) ≡ false
+    untaken b0 b1 b2 b3 b4 b6 e0 e1 e2 e3 e4 e6 = rw (e0, e1, e2, e3, e4, e6) refl
 
 module _ (r : Rights) (n : ℕ) (o : Order) where
   abbrev Said : ℕ → Type 0
-  Said a = raisesAs (formFor 0x5F a .kind) r n o ≡ saying a (registered n (r .places)) (eqb (o .service) 0)
+  Said a = raisesAs (formFor 0x5F a .kind) r n o ≡ actionRaises a (registered n (r .places)) (eqb (o .service) 0)
 
   said-0 : Said 0
-  unfolding formFor lookup lines takes raisesAs raises isOneOf
+  unfolding formFor lookup lines takes raisesAs raises isOneOf actionRaises
   said-0 = save (registered n (r .places)) (eqb (o .service) 0)
 
   said-1 : Said 1
-  unfolding formFor lookup lines takes raisesAs raises isOneOf
+  unfolding formFor lookup lines takes raisesAs raises isOneOf actionRaises
   said-1 = refl
 
   said-2 : Said 2
-  unfolding formFor lookup lines takes raisesAs raises isOneOf
+  unfolding formFor lookup lines takes raisesAs raises isOneOf actionRaises
   said-2 = refl
 
   said-3 : Said 3
-  unfolding formFor lookup lines takes raisesAs raises isOneOf
+  unfolding formFor lookup lines takes raisesAs raises isOneOf actionRaises
   said-3 = refl
 
   said-4 : Said 4
-  unfolding formFor lookup lines takes raisesAs raises isOneOf
+  unfolding formFor lookup lines takes raisesAs raises isOneOf actionRaises
   said-4 = refl
 
   said-6 : Said 6
-  unfolding formFor lookup lines takes raisesAs raises isOneOf
+  unfolding formFor lookup lines takes raisesAs raises isOneOf actionRaises
   said-6 = save (registered n (r .places)) (eqb (o .service) 0)
 
   other-said : (a : ℕ) → eqb a 0 ≡ false → eqb a 1 ≡ false → eqb a 2 ≡ false → eqb a 3 ≡ false → eqb a 4 ≡ false → eqb a 6 ≡ false → Said a
-  unfolding raisesAs isOneOf
+  unfolding raisesAs isOneOf actionRaises
   other-said a e0 e1 e2 e3 e4 e6 =
       ap (λ (f : Form). raisesAs (f .kind) r n o) (other-form a e0 e1 e2 e3 e4 e6) ∙ sym (none (eqb a 0) (eqb a 3) (eqb a 4) (eqb a 6) e0 e3 e4 e6)
     where
@@ -138,7 +121,7 @@ unit-generation s t e = ap (λ (u : Unit). u .rights .generation) e
 -- the generation where a reservation-out call is done
 out-raises : (s : Store) (c : Call) → T (isOut c)
     → raisesAs (formOf (c .cdb) .kind) (s .unit .rights) (c .nexus) (orderOf (c .cdb) (c .dataOut)) ≡ raising s c
-unfolding isOut raising idle serviceKey orderOf formOf
+unfolding isOut raising serviceKey orderOf formOf
 out-raises s c h =
     ap (λ (m : ℕ). raisesAs (formFor m (action (c .cdb)) .kind) (s .unit .rights) (c .nexus) (orderOf (c .cdb) (c .dataOut))) (eqb→eq (byte 0 (c .cdb)) 0x5F h)
     ∙ said (s .unit .rights) (c .nexus) (orderOf (c .cdb) (c .dataOut)) (action (c .cdb)) _ _ _ _ _ _ refl refl refl refl refl refl
@@ -156,7 +139,7 @@ out-generation s c h =
 
 raising-out : (s : Store) (c : Call) → T (raising s c) → T (isOut c)
 unfolding raising
-raising-out s c t = and-l (isOut c) (isOneOf (action (c .cdb)) (0 ∷ 3 ∷ 4 ∷ 6 ∷ []) && not (idle s c)) t
+raising-out s c t = and-l (isOut c) (actionRaises (action (c .cdb)) (registered (c .nexus) (s .unit .rights .places)) (eqb (serviceKey c) 0)) t
 
 pub generation-rises : (s : Store) (c : Call) → step s c .seen .answer ≡ Good → T (raising s c)
     → generation (after step s c) ≡ (generation s + 1) % 2 ^ 32
@@ -178,5 +161,6 @@ generation-stays s c t =
     other : (b : Bool) (x y : ℕ) → T (not b) → cond b x y ≡ y
     other true x y t = absurd t
     other false x y t = refl
+
     kept : (s : Store) (c : Call) → T (not (isOut c)) → generation (after step s c) ≡ generation s
     kept s c h = unit-generation s (after step s c) (other-unit s c h)

@@ -1,6 +1,7 @@
 pub mod Computing
 pub mod Parts
 pub mod Usable
+pub mod Fresh
 pub mod Demand1
 pub mod Demand3
 pub mod CasesPass

@@ -1,14 +1,14 @@
 -- The one order of tests in its parts, and what a GOOD or a refusal of the whole says of each.
 -- Assumes nothing.
 use mathlib.Core.Path.{_≡_, refl, sym, ap, _∙_, subst}
-use mathlib.Core.Bool.{Bool, true, false, not, _&&_}
+use mathlib.Core.Bool.{Bool, true, false, not}
 use mathlib.Core.List.{List, [], _∷_, _++_}
 use Prim.Native.Nat.{ℕ, _≤_}
 use lib.Dec.{T, ltb, nltb→le}
-use Rattle.fields.proofs.Tests.{and-l, and-r, both, false→T, not-not-intro}
+use Rattle.fields.proofs.Tests.{false→T}
 use Rattle.answers.specs.declared.Answer.{Answer}
 use Rattle.answers.specs.declared.Answer.the-variants.{Good, Refused, Conflict, Unusable, Short}
-use Rattle.answers.specs.Order.{Row, _if_, first, next, ifGood}
+use Rattle.answers.specs.Order.{_if_, first, next, ifGood}
 use Rattle.answers.proofs.OrderLaws.{refuses, refusing, row-fails, first-append, next-first, next-second}
 use Rattle.reservations.specs.declared.Action.the-variants.{Register, Reserve, Release, Clear, Preempt, RegisterIgnoring}
 use Rattle.forms.specs.declared.Tell.the-variants.{Ready, Inquiry, Capacity10, Capacity16, Keys, Reservation}
@@ -18,7 +18,7 @@ use Rattle.forms.specs.declared.Kind.the-variants.{Tells, Moves, Alters, Unknow
 use Rattle.forms.specs.declared.Form.{Form}
 use Rattle.forms.specs.Tests.{inquiryRows, transferRows, unmapRows, typeRows, fieldRows, formRows}
 use Rattle.commands.specs.Store.{Store, Call, usable}
-use Rattle.commands.specs.Step.{callRows, storeRows, ownRows, answerBy}
+use Rattle.commands.specs.Step.{callRows, storeRows, ownRows}
 
 -- the answer to a call whose row is f and whose kind is k
 abbrev pub answerAs : Form → Kind → Store → Call → Answer

@@ -1,10 +1,10 @@
 -- A usable store stays usable after every call, and its lists keep their lengths.
 -- Assumes nothing.
-use mathlib.Core.Path.{_≡_, refl, sym, ap, _∙_}
-use mathlib.Core.Bool.{Bool, true, false, not, _&&_}
-use mathlib.Core.List.{List, [], _∷_}
+use mathlib.Core.Path.{_≡_, refl, _∙_}
+use mathlib.Core.Bool.{not}
+use mathlib.Core.List.{List}
 use Prim.Native.Nat.{ℕ, zero, suc, _+_, _%_, _≤_}
-use lib.Dec.{T, leb, ltb, nltb→le}
+use lib.Dec.{T, ltb, nltb→le}
 use lib.ListN.{length}
 use Rattle.fields.specs.Field.{byte}
 use Rattle.fields.proofs.Tests.{and-l, and-r, both, not-not, false→T}
@@ -13,14 +13,13 @@ use Rattle.answers.specs.declared.Answer.the-variants.{Good, Refused, Conflict,
 use Rattle.answers.specs.Answers.{notListed, invalidField, outOfRange, listLength}
 use Rattle.answers.specs.Order.{first, ifGood}
 use Rattle.answers.proofs.OrderLaws.{refuses, row-fails, rows-after}
-use Rattle.map.specs.Pool.{Pool, writeBlocks, unmapOwners, unmapBlocks}
+use Rattle.map.specs.Pool.{Pool, writeBlocks, unmapBlocks}
 use Rattle.map.specs.Valid.{capacityOk, poolOk}
 use Rattle.map.proofs.Keeping.{poolOk-writeBlocks, poolOk-unmapBlocks, length-assignBlocks, length-putBlocks, length-unmapOwners}
-use Rattle.descriptors.specs.Descriptors.{descriptorAt, considered, unmapAll}
+use Rattle.descriptors.specs.Descriptors.{descriptorAt, unmapAll}
 use Rattle.reservations.specs.declared.Action.{Action}
 use Rattle.reservations.specs.declared.Action.the-variants.{Register, Reserve, Release, Clear, Preempt, RegisterIgnoring}
 use Rattle.reservations.specs.declared.Rights.{Rights}
-use Rattle.reservations.specs.declared.Order.{Order}
 use Rattle.reservations.specs.Rights.{isType, rightsOk}
 use Rattle.reservations.specs.Actions.{orderRows, acted}
 use Rattle.reservations.proofs.Keeping.{makes, acted-keeps}

@@ -3,18 +3,19 @@
 use mathlib.Core.Path.{_≡_, refl, sym, ap, _∙_}
 use mathlib.Core.Bool.{Bool, true, false, not, _&&_}
 use mathlib.Core.List.{List, [], _∷_, map}
-use Prim.Native.Nat.{ℕ, zero, suc}
+use Prim.Native.Nat.{ℕ}
 use native.Mathlib.Omega.{arith}
 use lib.Dec.{T, eqb, eqb→eq, not-T}
 use lib.ListN.{length, take}
 use Rattle.fields.proofs.Tests.{and-l, and-r}
 use Rattle.answers.specs.declared.Answer.{Answer}
 use Rattle.answers.specs.Answers.{numberOf, statusOf}
-use Rattle.commands.specs.Store.{Store, Call, Seen, Result}
-use Rattle.demands.specs.History.{Build, after, isOut, isShutOut, kept, add, watched, heard}
+use Rattle.commands.specs.Store.{Store, Call, Seen}
+use Rattle.demands.specs.History.{Build, after, kept, add, watched, heard}
 use Rattle.demands.specs.Demands.{Demand3}
 use Rattle.demands.specs.Useless.{blind, unmoved, constant, refusing, leaving}
-use Rattle.demands.specs.Cases.{Want, good, refused, same, sameStatus, senseShows, met, Case, Expect, _gives_, run, passed, caseOf, caseA, caseE, caseH, writeH, made, two, block, read-10, read-16, unmap-1}
+use Rattle.demands.specs.Checker.{Want, good, refused, same, sameStatus, senseShows, met, Case, Expect, _gives_, run, passed}
+use Rattle.demands.specs.Cases.{caseOf, caseH, writeH}
 
 -- ---- they meet demand 3
 

@@ -1,16 +1,17 @@
 -- Demand 3 is about something, by computation: two stores and histories that differ and of which it speaks, and a build that fails it.
 -- Assumes nothing.
 use mathlib.Core.Path.{_≡_, refl, sym, ap, _∙_}
-use mathlib.Core.Bool.{Bool, not, _&&_, cond}
+use mathlib.Core.Bool.{not, _&&_}
 use mathlib.Core.List.{List, [], _∷_}
-use Prim.Native.Nat.{ℕ, zero, suc}
+use Prim.Native.Nat.{ℕ}
 use native.Mathlib.Omega.{arith}
 use lib.Dec.{T}
 use Rattle.fields.proofs.Tests.{and-l, and-r}
-use Rattle.commands.specs.Store.{Store, Call, Seen, usable}
+use Rattle.commands.specs.Store.{Call, usable}
 use Rattle.commands.specs.Step.{step}
-use Rattle.demands.specs.History.{after, isOut, isShutOut, kept, add, watched, heard}
-use Rattle.demands.specs.Cases.{same, read-10}
+use Rattle.demands.specs.History.{watched, heard}
+use Rattle.demands.specs.Checker.{same}
+use Rattle.demands.specs.Bench.{read-10}
 use Rattle.demands.specs.Witness.{left, right, left-calls, right-calls, kept-calls, numbers, lengths}
 use Rattle.demands.specs.Useless.{blind, unmoved, telling}
 use Rattle.demands.specs.Demands.{Demand3}
@@ -85,5 +86,6 @@ telling-fails d =
   where
     left-usable : T (usable left)
     left-usable = and-l (usable left) (usable right) witness-usable
+
     right-usable : T (usable right)
     right-usable = and-r (usable left) (usable right) witness-usable

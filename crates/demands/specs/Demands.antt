@@ -4,7 +4,7 @@ use mathlib.Core.Path.{_≡_}
 use mathlib.Core.Logic.{_≢_}
 use mathlib.Core.Bool.{not}
 use mathlib.Core.List.{List, [], _∷_}
-use Prim.Native.Nat.{ℕ, _+_, _%_, _^_}
+use Prim.Native.Nat.{_+_, _%_, _^_}
 use lib.Dec.{T}
 use lib.ListN.{length, drop}
 use Rattle.answers.specs.declared.Answer.the-variants.{Good}
@@ -13,10 +13,11 @@ use Rattle.reservations.specs.Rights.{isOneOf}
 use Rattle.commands.specs.Store.{Store, Call, usable}
 use Rattle.commands.specs.Step.{step}
 use Rattle.demands.specs.History.{Build, after, isOut, isShutOut, watched, heard}
-use Rattle.demands.specs.Cases.{allPassed, cases}
+use Rattle.demands.specs.Checker.{allPassed}
+use Rattle.demands.specs.Cases.{cases}
 use Rattle.demands.specs.Generation.{generation, raising}
 
--- Demand 1. "Every call ends and gets a listed answer. A refused command leaves the medium, the map, the reservations and the data buffer unchanged."
+-- Demand 1. Every call gets a listed answer; "A refused command leaves the medium, the map, the reservations and the data buffer unchanged".
 pub record Demand1 (f : Build) : Type 0 where
   -- "Number 9 is not used"
   pub listed : (s : Store) (c : Call) → T (isOneOf (numberOf (f s c .seen .answer)) (0 ∷ 1 ∷ 2 ∷ 3 ∷ 4 ∷ 5 ∷ 6 ∷ 7 ∷ 8 ∷ 10 ∷ 11 ∷ 12 ∷ []))
@@ -46,6 +47,7 @@ pub record Demand2 (f : Build) : Type 0 where
   pub generation-rises : (s : Store) (c : Call) → f s c .seen .answer ≡ Good → T (raising s c)
       → generation (after f s c) ≡ (generation s + 1) % 2 ^ 32
   pub generation-stays : (s : Store) (c : Call) → T (not (raising s c)) → generation (after f s c) ≡ generation s
+  pub generation-refused : (s : Store) (c : Call) → f s c .seen .answer ≢ Good → generation (after f s c) ≡ generation s
 
 -- Demand 3. What a nexus learns that is shut out from reading.
 pub record Demand3 (f : Build) : Type 0 where

@@ -18,10 +18,11 @@ generation s = s .unit .rights .generation
 unfoldable pub serviceKey : Call → ℕ
 serviceKey c = field 8 8 (c .dataOut)
 
--- "an unregistered nexus sends service action key 0 in 0 or 6"
-unfoldable pub idle : Store → Call → Bool
-idle s c = isOneOf (action (c .cdb)) (0 ∷ 6 ∷ []) && not (registered (c .nexus) (s .unit .rights .places)) && eqb (serviceKey c) 0
+-- "actions 0, 3, 4, 6, save where an unregistered nexus sends service action key 0 in 0 or 6"
+unfoldable pub actionRaises : ℕ → Bool → Bool → Bool
+actionRaises number isRegistered isZero =
+    isOneOf number (0 ∷ 3 ∷ 4 ∷ 6 ∷ []) && not (isOneOf number (0 ∷ 6 ∷ []) && not isRegistered && isZero)
 
--- "actions 0, 3, 4, 6, save where" it is so
+-- a reservation-out call that raises the generation where it is GOOD
 unfoldable pub raising : Store → Call → Bool
-raising s c = isOut c && (isOneOf (action (c .cdb)) (0 ∷ 3 ∷ 4 ∷ 6 ∷ []) && not (idle s c))
+raising s c = isOut c && actionRaises (action (c .cdb)) (registered (c .nexus) (s .unit .rights .places)) (eqb (serviceKey c) 0)

@@ -1,6 +1,9 @@
 pub mod History
-pub mod Useless
+pub mod Checker
+pub mod Bench
 pub mod Cases
-pub mod Witness
+pub mod FurtherCases
 pub mod Generation
+pub mod Useless
+pub mod Witness
 pub mod Demands

@@ -6,7 +6,7 @@ use Rattle.answers.specs.declared.Answer.{Answer}
 use Rattle.answers.specs.declared.Answer.the-variants.{Good, Unusable}
 use Rattle.answers.specs.Answers.{noRoom, senseAfter}
 use Rattle.map.specs.Pool.{free}
-use Rattle.commands.specs.Store.{Store, Call, Seen, Result}
+use Rattle.commands.specs.Store.{Call, Seen}
 use Rattle.commands.specs.Step.{step}
 use Rattle.demands.specs.History.{Build}
 

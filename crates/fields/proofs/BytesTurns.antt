@@ -5,9 +5,10 @@ use mathlib.Core.List.{List, [], _∷_, _++_}
 use Prim.Native.Nat.{ℕ, zero, suc, _+_, _<_, _≤_}
 use native.Mathlib.Omega.{arith}
 use native.Mathlib.Numerals.{add-one}
-use lib.ListN.{length, getD, take, drop, set}
+use lib.ListN.{length, getD, take, set}
 use lib.Seq.{take-all, take-suc, take-suc-set}
 use Rattle.fields.specs.Bytes.{put, zeros}
+use Rattle.fields.proofs.BytesLaws.{put-none}
 
 -- copying
 pub copy-turn : (d s : List ℕ) (i : ℕ) → i < length d → i < length s → take i d ≡ take i s
@@ -38,16 +39,11 @@ pub clear-done : (d : List ℕ) (i : ℕ) → length d ≡ i → take i d ≡ ze
 clear-done d i h e = sym (take-all i d (omega arith)) ∙ e
 
 -- laying over
-pub put-none : (d : List ℕ) → put d 0 [] ≡ d
-unfolding put
-put-none [] = refl
-put-none (x ∷ xs) = refl
-
 put-more : (d s : List ℕ) (i : ℕ) → i < length d → i < length s → set (put d 0 (take i s)) i (getD s i 0) ≡ put d 0 (take (suc i) s)
 unfolding put
 put-more [] s i hd hs = absurd (omega arith)
 put-more (x ∷ xs) [] i hd hs = absurd (omega arith)
-put-more (x ∷ xs) (b ∷ bs) zero hd hs = ap (λ (l : List ℕ). b ∷ l) (sym (put-none xs))
+put-more (x ∷ xs) (b ∷ bs) zero hd hs = ap (λ (l : List ℕ). b ∷ l) (sym (put-none xs 0))
 put-more (x ∷ xs) (b ∷ bs) (suc i) hd hs = ap (λ (l : List ℕ). b ∷ l) (put-more xs bs i (omega arith) (omega arith))
 
 pub put-turn : (e d s : List ℕ) (i : ℕ) → i < length d → i < length s → e ≡ put d 0 (take i s)

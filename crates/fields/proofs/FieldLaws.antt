@@ -1,14 +1,14 @@
 -- Laws of numbers in bytes, each once over the width.
 -- Assumes nothing.
 use mathlib.Core.Path.{_≡_, refl, sym, ap, _∙_}
-use mathlib.Core.List.{List, [], _∷_, _++_}
+use mathlib.Core.List.{List, _∷_, _++_}
 use Prim.Native.Nat.{ℕ, zero, suc, _+_, _*_, _/_, _%_, _^_, _≤_, _<_}
 use native.Mathlib.Nat.{add-zero, zero-add, add-assoc, mul-one, mul-comm, mod-one, one-le-pow, pow-suc, pow-le-pow-right, lt-of-lt-of-le}
 use native.Mathlib.Numerals.{add-one}
 use native.Mathlib.Omega.{arith}
 use lib.Arith.{mod-mul}
 use lib.Dec.{lit<}
-use lib.ListN.{length, drop, getD}
+use lib.ListN.{length, drop}
 use lib.Seq.{getD-drop}
 use Rattle.fields.specs.Field.{byte, field, bytes}
 
@@ -65,4 +65,4 @@ field-bytes zero x l = sym (mod-one x)
 field-bytes (suc n) x l =
     field-front 0 n _
     ∙ rw (field-tail (x / 256 ^ n % 256) n (bytes n x ++ l), field-bytes n x l, pow-suc 256 n, mul-comm (256 ^ n) 256)
-      (sym (mod-mul x {m = 256} {c = 256 ^ n} (lit< tt) (one-le-pow n 256 (lit< tt))))
+    (sym (mod-mul x {m = 256} {c = 256 ^ n} (lit< tt) (one-le-pow n 256 (lit< tt))))

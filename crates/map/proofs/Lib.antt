@@ -5,3 +5,7 @@ pub mod Unmapping
 pub mod Reading
 pub mod Clashes
 pub mod Alike
+pub mod Turns
+pub mod Indexing
+pub mod Blocks
+pub mod Answering

@@ -1,7 +1,7 @@
 -- The index of a range: the place of each address, so that a read or a write searches the slots once and not once per block.
 -- Assumes nothing.
 use mathlib.Core.Bool.{cond}
-use mathlib.Core.List.{List, [], _∷_}
+use mathlib.Core.List.{List, [], _∷_, _++_}
 use Prim.Native.Nat.{ℕ, zero, suc, _+_, _*_}
 use lib.Dec.{eqb, ltb}
 use lib.ListN.{take, drop}
@@ -21,6 +21,10 @@ missing slots (i ∷ is) = cond (eqb i slots) 1 0 + missing slots is
 -- the bytes at a place
 unfoldable pub slotBytes : List ℕ → ℕ → ℕ → List ℕ
 slotBytes medium slots i = cond (ltb i slots) (part medium (512 * i) 512) (zeros 512)
+
+unfoldable pub readPlaces : List ℕ → ℕ → List ℕ → List ℕ
+readPlaces medium slots [] = []
+readPlaces medium slots (i ∷ is) = slotBytes medium slots i ++ readPlaces medium slots is
 
 -- the medium once each block's bytes are at its place
 unfoldable pub putPlaces : List ℕ → List ℕ → List ℕ → List ℕ

@@ -1,9 +1,9 @@
 -- The map as a product of its own: what each entry point answers, and what it leaves.
 -- Assumes nothing.
-use mathlib.Core.Bool.{Bool, true, false, not, _&&_}
+use mathlib.Core.Bool.{Bool, true, false, not}
 use mathlib.Core.List.{List, [], _∷_}
 use Prim.Native.Nat.{ℕ, _+_, _*_}
-use lib.Dec.{eqb, leb, ltb}
+use lib.Dec.{eqb, ltb}
 use lib.ListN.{length}
 use Rattle.fields.specs.Bytes.{put, zeros}
 use Rattle.map.specs.Pool.{Pool, readBlocks, writeBlocks, unmapOwners}
@@ -53,14 +53,17 @@ wrong (Clash s t) = true
 unfoldable pub bounds : ℕ → ℕ → Mapped
 bounds capacity slots = first (BadBounds if not (capacityOk capacity) ∷ BadBounds if not (slotsOk slots) ∷ [])
 
--- of every call that has a pool: the bounds, then the map
-unfoldable pub usable : ℕ → Pool → Mapped
-usable capacity p =
-    next (bounds capacity (length (p .owners)))
-    (first
+-- the medium, then the map
+unfoldable pub sound : ℕ → Pool → Mapped
+sound capacity p =
+    first
     (BadBounds if not (eqb (length (p .medium)) (512 * length (p .owners)))
     ∷ Invalid (checked capacity (p .owners)) if wrong (checked capacity (p .owners))
-    ∷ []))
+    ∷ [])
+
+-- of every call that has a pool
+unfoldable pub usable : ℕ → Pool → Mapped
+usable capacity p = next (bounds capacity (length (p .owners))) (sound capacity p)
 
 -- of a read or a write of n blocks from a on, with so many bytes lent
 unfoldable pub transfer : ℕ → ℕ → ℕ → ℕ → Mapped
@@ -80,10 +83,13 @@ pub record Read : Type 0 where
 abbrev pub read : Mapped → List ℕ → Read
 read answer out = record { answer = answer; out = out }
 
+unfoldable pub readAnswer : ℕ → Pool → ℕ → ℕ → ℕ → Mapped
+readAnswer capacity p a n lent = next (usable capacity p) (transfer capacity a n lent)
+
+-- the first bytes of what is lent become those of the blocks; a refusal leaves them
 unfoldable pub readOf : ℕ → Pool → ℕ → ℕ → List ℕ → Read
 readOf capacity p a n out =
-    let answer = next (usable capacity p) (transfer capacity a n (length out)) in
-    record { answer = answer; out = ifDone answer (put out 0 (readBlocks p a n)) out }
+    read (readAnswer capacity p a n (length out)) (ifDone (readAnswer capacity p a n (length out)) (put out 0 (readBlocks p a n)) out)
 
 pub record Wrote : Type 0 where
   pub answer : Mapped
@@ -92,12 +98,14 @@ pub record Wrote : Type 0 where
 abbrev pub wrote : Mapped → List ℕ → List ℕ → Wrote
 wrote answer owners medium = record { answer = answer; after = pool owners medium }
 
+unfoldable pub writeAnswer : ℕ → Pool → ℕ → ℕ → ℕ → Mapped
+writeAnswer capacity p a n lent =
+    next (readAnswer capacity p a n lent) (first (NoRoom if not (roomFor (p .owners) a n) ∷ []))
+
+-- the blocks get their slots and their bytes; a refusal leaves the pool
 unfoldable pub writeOf : ℕ → Pool → ℕ → ℕ → List ℕ → Wrote
 writeOf capacity p a n bytes =
-    let answer =
-    next (usable capacity p)
-    (next (transfer capacity a n (length bytes)) (first (NoRoom if not (roomFor (p .owners) a n) ∷ []))) in
-    record { answer = answer; after = ifDone answer (writeBlocks p a n bytes) p }
+    record { answer = writeAnswer capacity p a n (length bytes); after = ifDone (writeAnswer capacity p a n (length bytes)) (writeBlocks p a n bytes) p }
 
 pub record Left : Type 0 where
   pub answer : Mapped
@@ -106,13 +114,15 @@ pub record Left : Type 0 where
 abbrev pub left : Mapped → List ℕ → Left
 left answer owners = record { answer = answer; owners = owners }
 
+unfoldable pub unmapAnswer : ℕ → Pool → ℕ → ℕ → Mapped
+unmapAnswer capacity p a n = next (usable capacity p) (first (OutOfRange if ltb capacity (a + n) ∷ []))
+
+-- the slots of the range are freed; a refusal leaves them
 unfoldable pub unmapOf : ℕ → Pool → ℕ → ℕ → Left
 unmapOf capacity p a n =
-    let answer = next (usable capacity p) (first (OutOfRange if ltb capacity (a + n) ∷ [])) in
-    record { answer = answer; owners = ifDone answer (unmapOwners (p .owners) a n) (p .owners) }
+    left (unmapAnswer capacity p a n) (ifDone (unmapAnswer capacity p a n) (unmapOwners (p .owners) a n) (p .owners))
 
 -- a fresh map has no block in any slot; bad bounds leave all
 unfoldable pub freshOf : ℕ → List ℕ → Left
 freshOf capacity owners =
-    let answer = bounds capacity (length owners) in
-    record { answer = answer; owners = ifDone answer (zeros (length owners)) owners }
+    left (bounds capacity (length owners)) (ifDone (bounds capacity (length owners)) (zeros (length owners)) owners)

@@ -4,14 +4,14 @@ ghost use mathlib.Core.Path.{_≡_};
 ghost use lib.ListN.{length};
 ghost use Rattle.map.specs.Write.{pool};
 ghost use Rattle.map.specs.Product as Product;
+use crate::Checked;
+use crate::Lba;
+use crate::Mapped;
 use crate::check;
 use crate::read;
 use crate::slots;
 use crate::unmap;
 use crate::write;
-use crate::Checked;
-use crate::Lba;
-use crate::Mapped;
 
 // Capacity and slots within their bounds.
 fn bounded(capacity: u64, slots: usize) -> Mapped
@@ -31,10 +31,11 @@ fn usable(capacity: u64, owners: &[u64], medium: &[u8]) -> Mapped
     ensures { λ r. ⌜ r ≡ Product.usable capacity (pool (now (owners .entry)) (now (medium .entry))) ⌝ }
 {
     let slots = owners.len();
-    let Mapped::Done = bounded(capacity, slots) else {
-        return Mapped::BadBounds;
+    let bounds = bounded(capacity, slots);
+    let Mapped::Done = bounds else {
+        return bounds;
     };
-    if medium.len() != slots * 512 {
+    if medium.len() != 512 * slots {
         return Mapped::BadBounds;
     }
     match check::check(capacity, owners) {
@@ -55,14 +56,21 @@ fn transfer(capacity: u64, lba: Lba, count: usize, lent: usize) -> Mapped
     if a > capacity || count as u64 > capacity - a {
         return Mapped::OutOfRange;
     }
-    if lent < count * 512 {
+    if lent < 512 * count {
         return Mapped::Short;
     }
     Mapped::Done
 }
 
 // The first bytes of `out` become those of the blocks; a refusal leaves it.
-pub fn read(capacity: u64, owners: &[u64], medium: &[u8], lba: Lba, count: usize, out: &mut [u8]) -> Mapped
+pub fn read(
+    capacity: u64,
+    owners: &[u64],
+    medium: &[u8],
+    lba: Lba,
+    count: usize,
+    out: &mut [u8],
+) -> Mapped
     ensures { λ r. ⌜ Product.read r (now (out .exit)) ≡ Product.readOf capacity (pool (now (owners .entry)) (now (medium .entry))) (lba .0) count (now (out .entry)) ⌝ }
 {
     let pool = usable(capacity, owners, medium);
@@ -78,7 +86,14 @@ pub fn read(capacity: u64, owners: &[u64], medium: &[u8], lba: Lba, count: usize
 }
 
 // The blocks get their places and their bytes; a refusal leaves all.
-pub fn write(capacity: u64, owners: &mut [u64], medium: &mut [u8], lba: Lba, count: usize, bytes: &[u8]) -> Mapped
+pub fn write(
+    capacity: u64,
+    owners: &mut [u64],
+    medium: &mut [u8],
+    lba: Lba,
+    count: usize,
+    bytes: &[u8],
+) -> Mapped
     ensures { λ r. ⌜ Product.wrote r (now (owners .exit)) (now (medium .exit)) ≡ Product.writeOf capacity (pool (now (owners .entry)) (now (medium .entry))) (lba .0) count (now (bytes .entry)) ⌝ }
 {
     let pool = usable(capacity, owners, medium);

@@ -7,9 +7,9 @@ ghost use Rattle.fields.specs.Bytes.{put};
 ghost use Rattle.map.specs.Pool.{readBlocks};
 ghost use Rattle.map.specs.Index.{slotBytes};
 ghost use Rattle.map.specs.Write.{pool};
-use crate::index;
 use crate::Lba;
 use crate::Slot;
+use crate::index;
 use fields::bytes;
 
 // The bytes of a slot, or zeros where the number is no slot's.
@@ -19,7 +19,7 @@ fn read_slot(medium: &[u8], slots: usize, slot: Slot, out: &mut [u8])
 {
     let s = slot.0;
     if s < slots {
-        let at = s * 512;
+        let at = 512 * s;
         let end = at + 512;
         bytes::copy(out, &medium[at..end]);
     } else {
@@ -36,7 +36,7 @@ pub fn read_blocks(owners: &[u64], medium: &[u8], lba: Lba, count: usize, out: &
     let index = index::index_of(owners, lba);
     let slots = owners.len();
     for k in 0..count {
-        let from = k * 512;
+        let from = 512 * k;
         let end = from + 512;
         read_slot(medium, slots, Slot(index[k]), &mut out[from..end]);
     }

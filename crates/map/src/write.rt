@@ -1,19 +1,19 @@
 // Writing blocks: places first, then bytes; refused with nothing changed where there are too few free slots.
 ghost use mathlib.Core.Path.{_≡_};
 ghost use Prim.Native.Nat.{ℕ, _+_, _*_, _<_, _≤_, _^_};
-ghost use lib.ListN.{length, getD, take, drop};
+ghost use lib.ListN.{length, getD, take};
 ghost use Rattle.map.specs.Pool.{place, free, unmapped, assignBlocks};
 ghost use Rattle.map.specs.Index.{places, putPlaces};
 ghost use Rattle.map.specs.Write.{pool, written, tryWrite};
+use crate::Lba;
 use crate::index;
 use crate::slots;
-use crate::Lba;
 use fields::bytes;
 
-// The lowest free slot from `from` on.
+// The lowest free slot, or the number of slots. The search starts at `from`, below which none is free.
 fn next_free(owners: &[u64], from: usize) -> usize
-    requires { ⌜ from ≤ length (now owners) ⌝ }
-    ensures { λ r. ⌜ r ≡ from + place 0 (drop from (now (owners .entry))) ⌝ }
+    requires { ⌜ from ≤ place 0 (now owners) ⌝ }
+    ensures { λ r. ⌜ r ≡ place 0 (now (owners .entry)) ⌝ }
 {
     for i in from..owners.len() {
         if owners[i] == 0 {
@@ -27,7 +27,7 @@ fn next_free(owners: &[u64], from: usize) -> usize
 // cursor no slot is free, so the search for the next one never goes back.
 fn assign_blocks(owners: &mut [u64], index: &mut [usize], lba: Lba, count: usize)
     requires { ⌜ (count ≤ 128) × (lba .0 + count ≤ 2 ^ 40) × (now index ≡ places (now owners) (lba .0) 128) × (unmapped (now owners) (lba .0) count ≤ free (now owners)) ⌝ }
-    ensures { λ _. ⌜ (now (owners .exit) ≡ assignBlocks (now (owners .entry)) (lba .0) count) × (now (index .exit) ≡ places (now (owners .exit)) (lba .0) 128) × ((k : ℕ) → k < count → getD (now (index .exit)) k 0 < length (now (owners .exit))) ⌝ }
+    ensures { λ _. ⌜ (now (owners .exit) ≡ assignBlocks (now (owners .entry)) (lba .0) count) × (now (index .exit) ≡ places (now (owners .exit)) (lba .0) 128) ⌝ }
 {
     let a = lba.0;
     let n = owners.len();
@@ -48,16 +48,22 @@ fn put_blocks(medium: &mut [u8], index: &[usize], slots: usize, count: usize, by
     ensures { λ _. ⌜ now (medium .exit) ≡ putPlaces (take count (now (index .entry))) (now (medium .entry)) (now (bytes .entry)) ⌝ }
 {
     for k in 0..count {
-        let from = k * 512;
+        let from = 512 * k;
         let end = from + 512;
-        let at = index[k] * 512;
+        let at = 512 * index[k];
         let past = at + 512;
         bytes::copy(&mut medium[at..past], &bytes[from..end]);
     }
 }
 
 // All of a write or nothing of it, and whether it was done. The bounds are what the caller has tested of its call, as for a read.
-pub fn write_blocks(owners: &mut [u64], medium: &mut [u8], lba: Lba, count: usize, bytes: &[u8]) -> bool
+pub fn write_blocks(
+    owners: &mut [u64],
+    medium: &mut [u8],
+    lba: Lba,
+    count: usize,
+    bytes: &[u8],
+) -> bool
     requires { ⌜ (count ≤ 128) × (lba .0 + count ≤ 2 ^ 40) × (length (now owners) ≤ 128) × (length (now medium) ≡ 512 * length (now owners)) × (512 * count ≤ length (now bytes)) ⌝ }
     ensures { λ r. ⌜ written r (now (owners .exit)) (now (medium .exit)) ≡ tryWrite (pool (now (owners .entry)) (now (medium .entry))) (lba .0) count (now (bytes .entry)) ⌝ }
 {

@@ -1,13 +1,12 @@
 -- When the generation rises: "by 1 at each GOOD of actions 0, 3, 4, 6, save where an unregistered nexus sends service action key 0 in 0 or 6".
 -- Assumes nothing.
-use mathlib.Core.Path.{_≡_, refl, sym, ap, _∙_}
+use mathlib.Core.Path.{_≡_, refl, ap, _∙_}
 use mathlib.Core.Bool.{Bool, true, false, not, _||_, cond}
 use mathlib.Core.List.{map}
 use Prim.Native.Nat.{ℕ, _+_, _%_, _^_}
 use lib.Dec.{T, eqb}
-use Rattle.answers.specs.declared.Answer.{Answer}
 use Rattle.answers.specs.declared.Answer.the-variants.{Good}
-use Rattle.answers.specs.Order.{first, ifGood}
+use Rattle.answers.specs.Order.{first}
 use Rattle.answers.proofs.OrderLaws.{refuses, if-good, if-refused}
 use Rattle.reservations.specs.declared.Rights.{Rights}
 use Rattle.reservations.specs.declared.Order.{Order}

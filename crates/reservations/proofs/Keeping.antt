@@ -6,7 +6,7 @@ use mathlib.Core.List.{List, [], _∷_, map}
 use Prim.Native.Nat.{ℕ, suc, _≤_}
 use lib.Dec.{T, eqb, leb, eqb→eq, eqb-refl, le→leb, T-not}
 use lib.ListN.{length, length-map}
-use Rattle.fields.proofs.Tests.{and-l, and-r, both, or-l, or-r, or-map, or-map², and-map, nor-l, nor-r, nor, not-map, not-not, nand-rest, true→T, false→T, test}
+use Rattle.fields.proofs.Tests.{and-l, and-r, both, or-l, or-r, or-map, or-map², and-map, nor-l, nor-r, nor, not-map, not-not, nand-rest, true→T, false→T}
 use Rattle.answers.specs.declared.Answer.the-variants.{Good, Conflict}
 use Rattle.answers.specs.Answers.{listField}
 use Rattle.answers.specs.Order.{first}
@@ -18,7 +18,7 @@ use Rattle.reservations.specs.declared.Action.{Action}
 use Rattle.reservations.specs.declared.Action.the-variants.{Register, Reserve, Release, Clear, Preempt, RegisterIgnoring}
 use Rattle.reservations.specs.Places.{unused, used, isOf, registered, somebody, keyOf, enrol, rekeyed, Spared, nobody, sender, spares, without}
 use Rattle.reservations.specs.Rights.{isOneOf, isType, oneHolds, allHold, holds, placeOk, placesApart, placesOk, stands, rightsOk, held, ended, withPlaces, settled, raised}
-use Rattle.reservations.specs.Actions.{flagsWrong, stranger, keyWrong, actionRows, orderRows, registering, reserving, releasing, clearing, holdersKey, preempting, acted}
+use Rattle.reservations.specs.Actions.{stranger, keyWrong, orderRows, registering, reserving, releasing, clearing, holdersKey, preempting, acted}
 
 -- a test by its two ways
 ways : (b : Bool) (P : Bool → Type 0) → (T b → P true) → (T (not b) → P false) → P b
@@ -282,6 +282,7 @@ registering-ok r n k small t =
   where
     rekeyed-places : T (placesOk (r .places)) → T (placesOk (withPlaces r (map (rekeyed n k) (r .places)) .places))
     rekeyed-places h = thin-places (rekeyed n k) (rekeyed-thin n k) (r .places) h
+
     enrolled : T (not (registered n (r .places))) → T (not (eqb k 0)) → T (rightsOk (withPlaces r (enrol n k (r .places))))
     enrolled u z =
         rights-of (withPlaces r (enrol n k (r .places))) (enrol-places n k small z (r .places) u (rights-places r t))

@@ -1,6 +1,6 @@
 -- What the search over the places looks for, and what the change of all of them does: names for questions and changes of `Places`.
 -- Assumes nothing.
-use mathlib.Core.Bool.{Bool, true, false, not, _&&_, cond}
+use mathlib.Core.Bool.{Bool, not, _&&_, cond}
 use mathlib.Core.List.{List, [], _∷_}
 use Prim.Native.Nat.{ℕ, suc}
 use lib.Dec.{eqb}
@@ -12,6 +12,7 @@ use Rattle.reservations.specs.declared.places.Want.{Want}
 use Rattle.reservations.specs.declared.places.Want.the-variants.{Of, Keyed, Used, Free}
 use Rattle.reservations.specs.declared.places.Change.{Change}
 use Rattle.reservations.specs.declared.places.Change.the-variants.{Rekey, Remove, RemoveBut, Empty}
+use Rattle.reservations.specs.Rights.{placeOk}
 use Rattle.reservations.specs.Places.{used, unused, isOf, registered, known, somebody, vacant, rekeyed, without, nobody, sender}
 
 -- is this place wanted
@@ -40,6 +41,10 @@ after (Remove k) = without nobody k
 after (RemoveBut k n) = without (sender n) k
 after Empty = λ p. unused
 
+-- a place that holds what it may, and whose nexus no later place has
+unfoldable pub soundBefore : Place → List Place → Bool
+soundBefore p ps = placeOk p && not (used p && registered (p .nexus) ps)
+
 -- what an order of tests decides: a refusal leaves the rights as they are
-unfoldable pub settles : List Row → Rights → Rights → Decision
-settles rows done kept = record { answer = first rows; rights = ifGood (first rows) done kept }
+unfoldable pub decidedBy : List Row → Rights → Rights → Decision
+decidedBy rows done kept = record { answer = first rows; rights = ifGood (first rows) done kept }

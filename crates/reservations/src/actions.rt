@@ -5,8 +5,7 @@ ghost use Rattle.answers.specs.Order.{_if_};
 ghost use Rattle.answers.specs.Answers.{noPlace};
 ghost use Rattle.reservations.specs.declared.Action.the-variants.{Register, Reserve, Release, Clear, Preempt, RegisterIgnoring};
 ghost use Rattle.reservations.specs.Actions.{stranger, crowded, registering, holdersKey, preempting, decided};
-ghost use Rattle.reservations.specs.Search.{settles};
-use answers::Answer;
+ghost use Rattle.reservations.specs.Search.{decidedBy};
 use crate::Action;
 use crate::Decision;
 use crate::Order;
@@ -16,6 +15,7 @@ use crate::places;
 use crate::places::Change;
 use crate::places::Want;
 use crate::standing;
+use answers::Answer;
 
 // What a reservation-out call decides.
 pub fn decide(action: Action, rights: Rights, nexus: u8, order: Order) -> Decision
@@ -74,7 +74,7 @@ fn registering(rights: Rights, nexus: u8, key: u64) -> Rights
 
 // What both kinds of registering share, once flags and key are tested.
 fn enter(rights: Rights, nexus: u8, order: Order) -> Decision
-    ensures { λ r. ⌜ r ≡ settles (noPlace if crowded rights nexus order ∷ []) (registering rights nexus (order .service)) rights ⌝ }
+    ensures { λ r. ⌜ r ≡ decidedBy (noPlace if crowded rights nexus order ∷ []) (registering rights nexus (order .service)) rights ⌝ }
 {
     if crowded(rights, nexus, order) {
         let answer = answers::no_place();
@@ -163,7 +163,7 @@ fn release(rights: Rights, nexus: u8, order: Order) -> Decision
             rights,
         };
     }
-    if rights.kind == order.kind {
+    if order.kind == rights.kind {
         let after = standing::ended(rights);
         return Decision {
             answer: Answer::Good,

@@ -1,5 +1,7 @@
 // The conflict rule.
 ghost use mathlib.Core.Path.{_≡_};
+ghost use mathlib.Core.List.{[], _∷_};
+ghost use Rattle.reservations.specs.Rights.{isOneOf};
 ghost use Rattle.reservations.specs.Conflict.{passes, stops, conflict};
 use crate::Access;
 use crate::Rights;
@@ -22,12 +24,24 @@ fn passes(rights: Rights, nexus: u8) -> bool
     false
 }
 
+// Whether a type stops others even from reading.
+fn stops_reading(kind: u8) -> bool
+    ensures { λ r. ⌜ r ≡ isOneOf kind (3 ∷ 6 ∷ 8 ∷ []) ⌝ }
+{
+    match kind {
+        3 => true,
+        6 => true,
+        8 => true,
+        0..=2 | 4..=5 | 7 | 9..=255 => false,
+    }
+}
+
 // Whether a type stops others from this access.
 fn stops(kind: u8, access: Access) -> bool
     ensures { λ r. ⌜ r ≡ stops kind access ⌝ }
 {
     match access {
-        Access::Reads => kinds::stops_reading(kind),
+        Access::Reads => stops_reading(kind),
         Access::Writes => !(kind == 0),
     }
 }

@@ -8,7 +8,10 @@ pub fn one_holds(kind: u8) -> bool
     ensures { λ r. ⌜ r ≡ oneHolds kind ⌝ }
 {
     match kind {
-        1 | 3 | 5 | 6 => true,
+        1 => true,
+        3 => true,
+        5 => true,
+        6 => true,
         0 | 2 | 4 | 7..=255 => false,
     }
 }
@@ -18,7 +21,8 @@ pub fn all_hold(kind: u8) -> bool
     ensures { λ r. ⌜ r ≡ allHold kind ⌝ }
 {
     match kind {
-        7 | 8 => true,
+        7 => true,
+        8 => true,
         0..=6 | 9..=255 => false,
     }
 }
@@ -28,17 +32,8 @@ pub fn registrants_pass(kind: u8) -> bool
     ensures { λ r. ⌜ r ≡ isOneOf kind (5 ∷ 6 ∷ []) ⌝ }
 {
     match kind {
-        5 | 6 => true,
+        5 => true,
+        6 => true,
         0..=4 | 7..=255 => false,
-    }
-}
-
-// Whether others may not even read.
-pub fn stops_reading(kind: u8) -> bool
-    ensures { λ r. ⌜ r ≡ isOneOf kind (3 ∷ 6 ∷ 8 ∷ []) ⌝ }
-{
-    match kind {
-        3 | 6 | 8 => true,
-        0..=2 | 4..=5 | 7 | 9..=255 => false,
     }
 }

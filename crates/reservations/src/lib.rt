@@ -5,6 +5,7 @@ mod kinds;
 mod places;
 pub mod standing;
 pub mod told;
+
 use answers::Answer;
 
 // A registration place; it is used exactly if its key is not 0.

@@ -1,12 +1,11 @@
 // The registration places: one search that answers every question, one change that serves every action.
 ghost use mathlib.Core.Path.{_≡_};
-ghost use mathlib.Core.Bool.{_&&_, not};
 ghost use mathlib.Core.List.{map};
 ghost use Prim.Native.Nat.{_+_, _≤_, _<_};
 ghost use lib.ListN.{getD, drop};
-ghost use Rattle.reservations.specs.Places.{used, unused, registered, keyOf, enrol};
-ghost use Rattle.reservations.specs.Rights.{placeOk, placesApart};
-ghost use Rattle.reservations.specs.Search.{wants, seek, has, after};
+ghost use Rattle.reservations.specs.Places.{unused, keyOf, enrol};
+ghost use Rattle.reservations.specs.Rights.{placesApart};
+ghost use Rattle.reservations.specs.Search.{wants, seek, has, after, soundBefore};
 use crate::Place;
 
 // What a place is looked for by: its nexus, its key, that it is used, that it is free.
@@ -21,8 +20,16 @@ fn wanted(place: Place, want: Want) -> bool
     ensures { λ r. ⌜ r ≡ wants want place ⌝ }
 {
     match want {
-        Want::Of(nexus) => if place.key == 0 { false } else { place.nexus == nexus },
-        Want::Keyed(key) => if place.key == 0 { false } else { place.key == key },
+        Want::Of(nexus) => if place.key == 0 {
+            false
+        } else {
+            place.nexus == nexus
+        },
+        Want::Keyed(key) => if place.key == 0 {
+            false
+        } else {
+            place.key == key
+        },
         Want::Used => !(place.key == 0),
         Want::Free => place.key == 0,
     }
@@ -131,7 +138,7 @@ pub fn change_all(places: [Place; 8], by: Change) -> [Place; 8]
 // Whether a place holds what it may, and no later one its nexus.
 fn sound(places: [Place; 8], i: usize) -> bool
     requires { ⌜ i < 8 ⌝ }
-    ensures { λ r. ⌜ r ≡ (placeOk (getD places i unused) && not (used (getD places i unused) && registered (getD places i unused .nexus) (drop (i + 1) places))) ⌝ }
+    ensures { λ r. ⌜ r ≡ soundBefore (getD places i unused) (drop (i + 1) places) ⌝ }
 {
     let place = places[i];
     if place.key == 0 {

@@ -105,7 +105,11 @@ pub fn settled(rights: Rights) -> Rights
     ensures { λ r. ⌜ r ≡ settled rights ⌝ }
 {
     let places = rights.places;
-    if stands(places, rights.kind, rights.holder) { rights } else { ended(rights) }
+    if stands(places, rights.kind, rights.holder) {
+        rights
+    } else {
+        ended(rights)
+    }
 }
 
 // The generation one higher; after FFFF_FFFFh it is 0.

@@ -1,22 +1,18 @@
+-- `answers::is` meets its contract.
+-- Assumes nothing.
 use borrow.Author.Tests.{eq-eqb, ne-eqb}
 use Rattle.answers.specs.Answers.{sameSense}
-use borrow.Author.Needs.{needs}
 use Rattle.answers.proofs.is.Statement.{statement}
 use Rattle.answers.proofs.is.Tie as tie
-use Rattle.answers.proofs.is.Reads as reads
-use Rattle.answers.proofs.is.Lts as lts
 
--- src/lib.rt:128:1
 returns : tie.Need-returns
 unfolding sameSense
 returns c = simp (eq-eqb _ _ (c .before .before .before .if1 .taken), eq-eqb _ _ (c .before .if2 .taken))
 
--- src/lib.rt:128:1
 returns-2 : tie.Need-returns-2
 unfolding sameSense
 returns-2 c = simp (eq-eqb _ _ (c .before .before .if1 .taken), ne-eqb _ _ (c .if2 .left))
 
--- src/lib.rt:128:1
 returns-3 : tie.Need-returns-3
 unfolding sameSense
 returns-3 c = simp (ne-eqb _ _ (c .if1 .left))

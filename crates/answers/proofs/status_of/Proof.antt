@@ -1,54 +1,44 @@
-use Rattle.answers.specs.Answers.{statusOf}
+-- `answers::status_of` meets its contract.
+-- Assumes nothing.
 use borrow.Author.Needs.{needs}
+use Rattle.answers.specs.Answers.{statusOf}
 use Rattle.answers.proofs.status_of.Statement.{statement}
 use Rattle.answers.proofs.status_of.Tie as tie
-use Rattle.answers.proofs.status_of.Reads as reads
-use Rattle.answers.proofs.status_of.Lts as lts
 
--- src/lib.rt:143:25
 enum-told : tie.Need-enum-told
 enum-told c = search needs
 
--- src/lib.rt:144:31
 enum-told-2 : tie.Need-enum-told-2
 enum-told-2 c = search needs
 
--- src/lib.rt:145:29
 enum-told-3 : tie.Need-enum-told-3
 enum-told-3 c = search needs
 
--- src/lib.rt:146:29
 enum-told-4 : tie.Need-enum-told-4
 enum-told-4 c = search needs
 
--- src/lib.rt:147:26
 enum-told-5 : tie.Need-enum-told-5
 enum-told-5 c = search needs
 
--- src/lib.rt:139:1
 returns : tie.Need-returns
 unfolding statusOf
-returns c = simp ((c .enum-told .given .1))
+returns c = simp (c .enum-told .given .1)
 
--- src/lib.rt:139:1
 returns-2 : tie.Need-returns-2
 unfolding statusOf
-returns-2 c = simp ((c .enum-told2 .given .1))
+returns-2 c = simp (c .enum-told2 .given .1)
 
--- src/lib.rt:139:1
 returns-3 : tie.Need-returns-3
 unfolding statusOf
-returns-3 c = simp ((c .enum-told3 .given .1))
+returns-3 c = simp (c .enum-told3 .given .1)
 
--- src/lib.rt:139:1
 returns-4 : tie.Need-returns-4
 unfolding statusOf
-returns-4 c = simp ((c .enum-told4 .given .1))
+returns-4 c = simp (c .enum-told4 .given .1)
 
--- src/lib.rt:139:1
 returns-5 : tie.Need-returns-5
 unfolding statusOf
-returns-5 c = simp ((c .enum-told5 .given .1))
+returns-5 c = simp (c .enum-told5 .given .1)
 
 pub status-of-spec : {M : Type 1} → statement M
 status-of-spec =

@@ -1,14 +1,14 @@
-use mathlib.Core.Path.{_≡_, _∙_, sym, refl}
+-- `clear`: the bytes passed are zeros.
+-- Assumes nothing.
+use mathlib.Core.Path.{_≡_, refl}
 use Prim.Native.Nat.{_≤_, _-_}
 use native.Mathlib.Omega.{arith}
 use lib.ListN.{length, take, length-set}
-use Rattle.fields.specs.Bytes.{put, zeros}
-use Rattle.fields.proofs.BytesTurns.{copy-turn, copy-done, zeros-none, clear-turn, clear-done, put-none, put-turn}
 use borrow.Author.Needs.{needs}
+use Rattle.fields.specs.Bytes.{zeros}
+use Rattle.fields.proofs.BytesTurns.{zeros-none, clear-turn, clear-done}
 use Rattle.fields.proofs.bytes.clear.Statement.{statement}
 use Rattle.fields.proofs.bytes.clear.Tie as tie
-use Rattle.fields.proofs.bytes.clear.Reads as reads
-use Rattle.fields.proofs.bytes.clear.Lts as lts
 
 abbrev Inv-loop : tie.InvT-loop
 Inv-loop dst₀ i₀ i-end dst i = (i ≤ i-end) × (i-end ≡ length dst₀) × (length dst ≡ length dst₀) × (take i dst ≡ zeros i)
@@ -16,33 +16,26 @@ Inv-loop dst₀ i₀ i-end dst i = (i ≤ i-end) × (i-end ≡ length dst₀) ×
 abbrev μ-loop : tie.MeasureT-loop
 μ-loop dst₀ i₀ i-end dst i = i-end - i
 
--- src/bytes.rt:21:5
 loop-holds : tie.Need-loop-holds Inv-loop μ-loop
 loop-holds c = (search needs, refl, refl, zeros-none (c .args .dst .now))
 
--- src/bytes.rt:22:9
 slice-write-dst : tie.Need-slice-write-dst Inv-loop μ-loop
 slice-write-dst c = search needs
 
--- src/bytes.rt:21:9
 add-i : tie.Need-add-i Inv-loop μ-loop
 add-i c = search needs
 
--- src/bytes.rt:21:5
 loop-less : tie.Need-loop-less Inv-loop μ-loop
 loop-less c = search needs
 
--- src/bytes.rt:21:5
 loop-again : tie.Need-loop-again Inv-loop μ-loop
 loop-again c =
     let l = c .before .loop .inv in
     (search needs, l .1, simp length-set (l .2), clear-turn _ _ (omega arith) (l .3))
 
--- src/bytes.rt:18:1
 same-length : tie.Need-same-length Inv-loop μ-loop
 same-length c = search needs
 
--- src/bytes.rt:18:1
 returns : tie.Need-returns Inv-loop μ-loop
 returns c =
     let l = c .before .loop .inv in

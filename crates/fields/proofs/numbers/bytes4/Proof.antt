@@ -1,28 +1,23 @@
+-- `fields::numbers::bytes4` meets its contract.
+-- Assumes nothing.
 use native.Mathlib.Nat.{div-one}
-use Rattle.fields.specs.Field.{bytes}
 use borrow.Author.Needs.{needs}
+use Rattle.fields.specs.Field.{bytes}
 use Rattle.fields.proofs.numbers.bytes4.Statement.{statement}
 use Rattle.fields.proofs.numbers.bytes4.Tie as tie
-use Rattle.fields.proofs.numbers.bytes4.Reads as reads
-use Rattle.fields.proofs.numbers.bytes4.Lts as lts
 
--- src/numbers.rt:45:9
 cast-t4 : tie.Need-cast-t4
 cast-t4 c = search needs
 
--- src/numbers.rt:46:9
 cast-t7 : tie.Need-cast-t7
 cast-t7 c = search needs
 
--- src/numbers.rt:47:9
 cast-t10 : tie.Need-cast-t10
 cast-t10 c = search needs
 
--- src/numbers.rt:48:9
 cast-t12 : tie.Need-cast-t12
 cast-t12 c = search needs
 
--- src/numbers.rt:41:1
 returns : tie.Need-returns
 unfolding bytes
 returns c = simp div-one

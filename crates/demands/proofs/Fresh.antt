@@ -1,0 +1,94 @@
+-- A fresh store: what making one leaves, and that calls may begin on it; on a store that is not usable every call gives 11.
+-- Assumes nothing.
+use mathlib.Core.Path.{_≡_, refl, ap, _∙_}
+use mathlib.Core.Bool.{Bool, true, false, not, _&&_}
+use mathlib.Core.List.{List, [], _∷_}
+use Prim.Native.Nat.{ℕ, _*_}
+use lib.Dec.{T, eqb, ltb}
+use lib.ListN.{length}
+use Rattle.fields.specs.Bytes.{zeros}
+use Rattle.fields.proofs.BytesLaws.{length-zeros}
+use Rattle.answers.specs.declared.Answer.{Answer}
+use Rattle.answers.specs.declared.Answer.the-variants.{Good, Unusable}
+use Rattle.answers.specs.Order.{_if_, first, next, ifGood}
+use Rattle.answers.proofs.OrderLaws.{row-stop}
+use Rattle.map.specs.Valid.{capacityOk, slotsOk}
+use Rattle.map.proofs.Held.{T-true}
+use Rattle.map.proofs.Keeping.{poolOk-of, mapOk-zeros}
+use Rattle.reservations.specs.Places.{used, registered}
+use Rattle.reservations.specs.Rights.{noRights, placeOk, placesApart, placesOk, stands, rightsOk}
+use Rattle.forms.specs.Forms.{formOf}
+use Rattle.forms.specs.Tests.{formRows}
+use Rattle.commands.specs.Store.{Store, Call, usable, seenOf}
+use Rattle.commands.specs.Step.{callRows, storeRows, ownRows, answerBy, stepBy, step}
+use Rattle.commands.specs.Fresh.{freshUnit, freshAnswer, fresh, freshStore}
+use Rattle.demands.proofs.Parts.{parts}
+use Rattle.demands.proofs.Usable.{unit-of, usable-of}
+
+-- ---- making one
+
+module _ (capacity : ℕ) (owners : List ℕ) where
+  bounds : (a b : Bool) → T (a && b) → first (Unusable if not a ∷ Unusable if not b ∷ []) ≡ Good
+  unfolding first
+  bounds true true t = refl
+  bounds true false t = absurd t
+  bounds false b t = absurd t
+
+  no-bounds : (a b : Bool) → T (not (a && b)) → first (Unusable if not a ∷ Unusable if not b ∷ []) ≡ Unusable
+  unfolding first
+  no-bounds true true t = absurd t
+  no-bounds true false t = refl
+  no-bounds false b t = refl
+
+  -- "no mapping, registration or reservation and generation 0"
+  pub fresh-made : T (capacityOk capacity && slotsOk (length owners))
+      → fresh capacity owners ≡ record { answer = Good; unit = freshUnit capacity; owners = zeros (length owners) }
+  unfolding fresh freshAnswer ifGood
+  fresh-made t =
+      ap (λ (a : Answer). record { answer = a; unit = ifGood a (freshUnit capacity) (freshUnit 0); owners = ifGood a (zeros (length owners)) owners })
+      (bounds (capacityOk capacity) (slotsOk (length owners)) t)
+
+  -- "bad bounds give 11 and leave all"
+  pub fresh-refused : T (not (capacityOk capacity && slotsOk (length owners)))
+      → fresh capacity owners ≡ record { answer = Unusable; unit = freshUnit 0; owners = owners }
+  unfolding fresh freshAnswer ifGood
+  fresh-refused t =
+      ap (λ (a : Answer). record { answer = a; unit = ifGood a (freshUnit capacity) (freshUnit 0); owners = ifGood a (zeros (length owners)) owners })
+      (no-bounds (capacityOk capacity) (slotsOk (length owners)) t)
+
+-- ---- calls may begin on it
+
+no-rights-ok : T (rightsOk noRights)
+unfolding rightsOk noRights placesOk placesApart placeOk used registered stands
+no-rights-ok = tt
+
+pub fresh-usable : (capacity slots : ℕ) (medium : List ℕ) → T (capacityOk capacity) → T (slotsOk slots) → length medium ≡ 512 * slots
+    → T (usable (freshStore capacity slots medium))
+unfolding freshStore freshUnit
+fresh-usable capacity slots medium b s e =
+    usable-of (freshStore capacity slots medium) (unit-of (freshUnit capacity) b no-rights-ok)
+    (poolOk-of capacity _ (rw length-zeros s) (rw length-zeros e) (mapOk-zeros capacity slots))
+
+-- ---- on no other
+
+call-eleven : (c : Call) → next (first (callRows c)) Unusable ≡ Unusable
+unfolding callRows first next
+call-eleven c = go (ltb 15 (c .nexus)) (eqb (length (c .cdb)) 0) (ltb (length (c .sense)) 18)
+  where
+    go : (x y z : Bool) → next (first (Unusable if x ∷ Unusable if y ∷ Unusable if z ∷ [])) Unusable ≡ Unusable
+    go true y z = refl
+    go false true z = refl
+    go false false true = refl
+    go false false false = refl
+
+store-eleven : (s : Store) → T (not (usable s)) → first (storeRows s) ≡ Unusable
+unfolding storeRows
+store-eleven s t = row-stop Unusable _ _ (T-true (not (usable s)) t)
+
+-- "11 … slots or capacity out of bounds, medium not 512 x slots bytes, invalid state"
+pub unusable-eleven : (s : Store) (c : Call) → T (not (usable s)) → step s c .seen .answer ≡ Unusable
+unfolding step stepBy seenOf answerBy next
+unusable-eleven s c t =
+    parts (formOf (c .cdb)) (formOf (c .cdb) .kind) s c
+    ∙ ap (λ (a : Answer). next (first (callRows c)) (next a (next (first (formRows (formOf (c .cdb)) (formOf (c .cdb) .kind) (c .cdb))) (first (ownRows (formOf (c .cdb)) (formOf (c .cdb) .kind) s c))))) (store-eleven s t)
+    ∙ call-eleven c

@@ -1,0 +1,246 @@
+-- One turn of each loop over the blocks of a range: reading them, giving them slots, putting their bytes.
+-- Assumes nothing.
+use mathlib.Core.Path.{_≡_, refl, sym, ap, _∙_}
+use mathlib.Core.Bool.{not, cond}
+use mathlib.Core.List.{List, [], _∷_, _++_, append-nil, append-assoc}
+use mathlib.Core.Logic.{_≢_}
+use Prim.Native.Nat.{ℕ, zero, suc, _+_, _-_, _*_, _<_, _≤_}
+use native.Mathlib.Omega.{arith}
+use native.Mathlib.Nat.{add-zero}
+use native.Mathlib.Numerals.{add-one}
+use lib.Dec.{T, ltb, ltb→lt, nltb→le}
+use lib.ListN.{length, getD, take, drop, set, length-append, drop-of-length-le}
+use lib.Seq.{drop-cons, drop-drop, length-take-le, take-suc}
+use borrow.Author.Tests.{ne-eqb, lt-ltb, le-ltb}
+use borrow.Rule.Slice.PartMut.{putMid, post-is}
+use Rattle.fields.specs.Bytes.{part, put, zeros}
+use Rattle.fields.proofs.BytesLaws.{put-is, put-next, put-none, length-part, length-zeros}
+use Rattle.fields.proofs.Tests.{test, true→T}
+use Rattle.map.specs.Pool.{place, has, mapped, free, unmapped, fill, assign, assignBlocks, putBlocks, readBlock, readBlocks}
+use Rattle.map.specs.Index.{places, slotBytes, readPlaces, putPlaces}
+use Rattle.map.specs.Write.{pool}
+use Rattle.map.proofs.Held.{T-true, T-false, by-equal, place-below, place-none, below-has, fill-set, has-free}
+use Rattle.map.proofs.Keeping.{length-assign, length-assignBlocks}
+use Rattle.map.proofs.Writing.{free-assign, assign-mapped, unmapped-assign, mapped-write-in}
+use Rattle.map.proofs.Indexing.{places-at, places-fill}
+
+-- a part that was lent comes back as bytes laid over
+pub lent-back : (m b : List ℕ) (a k : ℕ) → length b ≡ k → a + k ≤ length m → putMid a (a + k - a) m b ≡ put m a b
+lent-back m b a k e h =
+    ap (λ (z : List ℕ). take a m ++ (b ++ z)) (post-is a (a + k) m (omega arith))
+    ∙ ap (λ (n : ℕ). take a m ++ (b ++ drop (a + n) m)) (sym e)
+    ∙ sym (put-is m a b (omega arith))
+
+pub part-is : (a k : ℕ) (m : List ℕ) → take (a + k - a) (drop a m) ≡ part m a k
+unfolding part
+part-is a k m = let e : a + k - a ≡ k = omega arith in rw e
+
+-- ---- reading
+
+below-is : (x : ℕ) (o : List ℕ) → ltb (place x o) (length o) ≡ has x o
+below-is x o =
+    test (has x o)
+    (λ t. lt-ltb (place x o) (length o) (place-below x o t) ∙ sym (T-true (has x o) t))
+    (λ t. let e = place-none x o t in le-ltb (place x o) (length o) (omega arith) ∙ sym (T-false (has x o) t))
+
+module _ (m : List ℕ) (slots i : ℕ) where
+  pub bytes-at : i < slots → slotBytes m slots i ≡ part m (512 * i) 512
+  unfolding slotBytes
+  bytes-at h = rw (lt-ltb i slots h)
+
+  pub bytes-none : slots ≤ i → slotBytes m slots i ≡ zeros 512
+  unfolding slotBytes
+  bytes-none h = rw (le-ltb i slots h)
+
+  pub length-bytes : length m ≡ 512 * slots → length (slotBytes m slots i) ≡ 512
+  length-bytes e =
+      test (ltb i slots)
+      (λ t. ap length (bytes-at (ltb→lt i slots t)) ∙ length-part m (512 * i) 512 (let h = ltb→lt i slots t in omega arith))
+      (λ t. ap length (bytes-none (nltb→le i slots t)) ∙ length-zeros 512)
+
+block-is : (o m : List ℕ) (a : ℕ) → slotBytes m (length o) (place (suc a) o) ≡ readBlock (pool o m) a
+unfolding slotBytes readBlock mapped
+block-is o m a = rw (below-is (suc a) o)
+
+pub readPlaces-is : (o m : List ℕ) (a w n : ℕ) → n ≤ w → readPlaces m (length o) (take n (places o a w)) ≡ readBlocks (pool o m) a n
+unfolding readPlaces readBlocks places
+readPlaces-is o m a w zero h = refl
+readPlaces-is o m a zero (suc n) h = absurd (omega arith)
+readPlaces-is o m a (suc w) (suc n) h = rw (block-is o m a, readPlaces-is o m (suc a) w n (omega arith))
+
+module _ (m : List ℕ) (slots : ℕ) where
+  length-read : length m ≡ 512 * slots → (is : List ℕ) → length (readPlaces m slots is) ≡ 512 * length is
+  unfolding readPlaces
+  length-read e [] = refl
+  length-read e (i ∷ is) =
+      omega (arith, length-append (slotBytes m slots i) (readPlaces m slots is), length-bytes m slots i e, length-read e is)
+
+  read-last : (is : List ℕ) (i : ℕ) → readPlaces m slots (is ++ (i ∷ [])) ≡ readPlaces m slots is ++ slotBytes m slots i
+  unfolding readPlaces
+  read-last [] i = append-nil (slotBytes m slots i)
+  read-last (j ∷ is) i =
+      rw (read-last is i) (sym (append-assoc (slotBytes m slots j) (readPlaces m slots is) (slotBytes m slots i)))
+
+  pub read-start : (is out : List ℕ) → out ≡ put out 0 (readPlaces m slots (take 0 is))
+  unfolding readPlaces
+  read-start is out = sym (put-none out 0)
+
+  -- a turn: block k is laid behind those before it
+  pub read-turn : (is out₀ out b : List ℕ) (k : ℕ) → length m ≡ 512 * slots → k < length is → 512 * k + 512 ≤ length out
+      → out ≡ put out₀ 0 (readPlaces m slots (take k is)) → b ≡ slotBytes m slots (getD is k 0)
+      → putMid (512 * k) (512 * k + 512 - 512 * k) out b ≡ put out₀ 0 (readPlaces m slots (take (k + 1) is))
+  read-turn is out₀ out b k e h f q g =
+      let r = readPlaces m slots (take k is) in
+      let n : 512 * k ≡ 0 + length r = omega (arith, length-read e (take k is), length-take-le k is (omega arith)) in
+      let more : r ++ b ≡ readPlaces m slots (take (k + 1) is) =
+      rw (add-one k, take-suc is k 0 h, g) (sym (read-last (take k is) (getD is k 0))) in
+      lent-back out b (512 * k) 512 (ap length g ∙ length-bytes m slots (getD is k 0) e) f
+      ∙ ap (λ (l : List ℕ). put l (512 * k) b) q
+      ∙ ap (λ (i : ℕ). put (put out₀ 0 r) i b) n
+      ∙ put-next out₀ 0 r b
+      ∙ ap (put out₀ 0) more
+
+-- ---- putting bytes
+
+pub put-start : (is m bs : List ℕ) → putPlaces (drop 0 is) m (drop (512 * 0) bs) ≡ putPlaces is m bs
+put-start is m bs = refl
+
+module _ (is m bs : List ℕ) (k : ℕ) where
+  pub put-turn : k < length is
+      → putPlaces (drop k is) m (drop (512 * k) bs)
+      ≡ putPlaces (drop (k + 1) is) (put m (512 * getD is k 0) (part bs (512 * k) 512)) (drop (512 * (k + 1)) bs)
+  unfolding putPlaces part
+  put-turn h =
+      let q : 512 * k + 512 ≡ 512 * (k + 1) = omega arith in
+      let m′ = put m (512 * getD is k 0) (take 512 (drop (512 * k) bs)) in
+      ap (λ (l : List ℕ). putPlaces l m (drop (512 * k) bs)) (drop-cons is k 0 h)
+      ∙ ap (putPlaces (drop (suc k) is) m′) (drop-drop 512 (512 * k) bs ∙ ap (λ (n : ℕ). drop n bs) q)
+      ∙ ap (λ (n : ℕ). putPlaces (drop n is) m′ (drop (512 * (k + 1)) bs)) (sym (add-one k))
+
+  pub put-end : length is ≤ k → putPlaces (drop k is) m (drop (512 * k) bs) ≡ m
+  unfolding putPlaces
+  put-end h = ap (λ (l : List ℕ). putPlaces l m (drop (512 * k) bs)) (drop-of-length-le is h)
+
+pub putPlaces-is : (o : List ℕ) (a w n : ℕ) (m bs : List ℕ) → n ≤ w → putPlaces (take n (places o a w)) m bs ≡ putBlocks o m a n bs
+unfolding putPlaces putBlocks places
+putPlaces-is o a w zero m bs h = refl
+putPlaces-is o a zero (suc n) m bs h = absurd (omega arith)
+putPlaces-is o a (suc w) (suc n) m bs h =
+    putPlaces-is o (suc a) w n (put m (512 * place (suc a) o) (take 512 bs)) (drop 512 bs) (omega arith)
+
+-- ---- giving slots
+
+module _ (o : List ℕ) (b n : ℕ) where
+  rest-assign : assignBlocks o b (suc n) ≡ assignBlocks (assign o b) (suc b) n
+  unfolding assignBlocks
+  rest-assign = refl
+
+  room-assign : unmapped o b (suc n) ≤ free o → unmapped (assign o b) (suc b) n ≤ free (assign o b)
+  unfolding unmapped
+  room-assign h =
+      let e = free-assign o b (omega arith) in
+      let d = unmapped-assign o b (suc b) n (omega arith) in
+      omega arith
+
+  has-room : unmapped o b (suc n) ≤ free o → T (not (has (suc b) o)) → T (has 0 o)
+  unfolding unmapped mapped
+  has-room h t =
+      let e : _≡_ {A = ℕ} (cond (has (suc b) o) 0 1) 1 = rw (T-false (has (suc b) o) t) in
+      has-free o (omega arith)
+
+assign-new : (o : List ℕ) (b : ℕ) → T (not (has (suc b) o)) → assign o b ≡ fill (suc b) o
+unfolding assign mapped
+assign-new o b t = rw (T-false (has (suc b) o) t)
+
+assign-kept : (o : List ℕ) (b : ℕ) → T (has (suc b) o) → assign o b ≡ o
+unfolding mapped
+assign-kept o b t = assign-mapped o b t
+
+-- the lowest free slot only rises
+free-rises : (x : ℕ) (o : List ℕ) → x ≢ 0 → place 0 o ≤ place 0 (fill x o)
+unfolding place fill
+free-rises x [] d = omega arith
+free-rises x (y ∷ ys) d =
+    by-equal y 0 (λ b. cond b 0 (suc (place 0 ys)) ≤ place 0 (cond b (x ∷ ys) (y ∷ fill x ys)))
+    (λ e. omega arith)
+    (λ e. rw (ne-eqb y 0 e) (let h = free-rises x ys d in omega arith))
+
+-- what holds of the owners o, their index and the cursor after the first k blocks have their slots
+pub record Given (o₀ : List ℕ) (a count : ℕ) (o index : List ℕ) (cursor k : ℕ) : Type 0 where
+  pub same : length o ≡ length o₀
+  pub indexed : index ≡ places o a 128
+  pub rest : assignBlocks o (a + k) (count - k) ≡ assignBlocks o₀ a count
+  pub room : unmapped o (a + k) (count - k) ≤ free o
+  pub low : cursor ≤ place 0 o
+
+pub give-start : (o index : List ℕ) (a count : ℕ) → index ≡ places o a 128 → unmapped o a count ≤ free o → Given o a count o index 0 0
+give-start o index a count e h =
+    let z : count - 0 ≡ count = omega arith in
+    record { same = refl; indexed = e; rest = rw (add-zero a, z); room = rw (add-zero a, z) h; low = omega arith }
+
+module _ (o₀ : List ℕ) (a count : ℕ) (o index : List ℕ) (cursor k : ℕ)
+    (g : Given o₀ a count o index cursor k) (h : k < count) (w : count ≤ 128) where
+  here : getD index k 0 ≡ place (suc (a + k)) o
+  here = ap (λ (l : List ℕ). getD l k 0) (g .indexed) ∙ places-at o a 128 k (omega arith)
+
+  left : count - k ≡ suc (count - (k + 1))
+  left = omega arith
+
+  next : suc (a + k) ≡ a + (k + 1)
+  next = omega arith
+
+  room-now : unmapped o (a + k) (suc (count - (k + 1))) ≤ free o
+  room-now = rw (← left) (g .room)
+
+  give-next : (o′ index′ : List ℕ) (cursor′ : ℕ) → o′ ≡ assign o (a + k) → index′ ≡ places o′ a 128 → cursor′ ≤ place 0 o′
+      → Given o₀ a count o′ index′ cursor′ (k + 1)
+  give-next o′ index′ cursor′ e f l = record {
+    same = ap length e ∙ length-assign o (a + k) ∙ g .same;
+    indexed = f;
+    rest =
+        rw (← next, e)
+        (sym (ap (assignBlocks o (a + k)) left ∙ rest-assign o (a + k) (count - (k + 1))) ∙ g .rest);
+    room = rw (← next, e) (room-assign o (a + k) (count - (k + 1)) room-now);
+    low = l;
+  }
+
+  -- a block that has its slot
+  pub give-none : getD index k 0 < length o → Given o₀ a count o index cursor (k + 1)
+  give-none m =
+      let t = below-has (suc (a + k)) o (rw here at m) in
+      give-next o index cursor (sym (assign-kept o (a + k) t)) (g .indexed) (g .low)
+
+  -- a block that gets one
+  module _ (m : length o ≤ getD index k 0) where
+    has-not : T (not (has (suc (a + k)) o))
+    has-not =
+        test (has (suc (a + k)) o)
+        (λ t. let q = place-below (suc (a + k)) o t in let s = here in absurd (omega arith))
+        (λ t. t)
+
+    pub give-below : place 0 o < length o
+    give-below = place-below 0 o (has-room o (a + k) (count - (k + 1)) room-now has-not)
+
+    pub give-one : (r : ℕ) → r ≡ place 0 o → Given o₀ a count (set o r (a + k + 1)) (set index k r) r (k + 1)
+    give-one r e =
+        let z : suc (a + k) ≢ 0 = λ q. omega arith in
+        let f : set o r (a + k + 1) ≡ fill (suc (a + k)) o = rw (e, add-one (a + k)) (sym (fill-set (suc (a + k)) o)) in
+        let i : set index k r ≡ places (fill (suc (a + k)) o) a 128 =
+        rw (e, g .indexed) (sym (places-fill o a 128 k (omega arith) has-not)) in
+        give-next _ _ r (f ∙ sym (assign-new o (a + k) has-not)) (rw f i) (rw (f, e) (free-rises (suc (a + k)) o z))
+
+pub give-done : (o₀ : List ℕ) (a count : ℕ) (o index : List ℕ) (cursor k : ℕ) → Given o₀ a count o index cursor k → count ≡ k
+    → o ≡ assignBlocks o₀ a count
+unfolding assignBlocks
+give-done o₀ a count o index cursor k g e =
+    let z : count - k ≡ 0 = omega arith in
+    sym (ap (assignBlocks o (a + k)) z) ∙ g .rest
+
+-- where there is room every block of the range has a slot
+pub given-below : (o : List ℕ) (a n k : ℕ) → unmapped o a n ≤ free o → k < n → n ≤ 128
+    → getD (places (assignBlocks o a n) a 128) k 0 < length o
+unfolding mapped
+given-below o a n k room h w =
+    let q = assignBlocks o a n in
+    let b = place-below (suc (a + k)) q (true→T (has (suc (a + k)) q) (mapped-write-in o a n room k h)) in
+    rw (places-at q a 128 k (omega arith), ← length-assignBlocks o a n) b

@@ -1,0 +1,92 @@
+-- `write_blocks`: the room is read off the index, which the slots given complete.
+-- Assumes nothing.
+use mathlib.Core.Path.{_≡_, _∙_, ap}
+use mathlib.Core.List.{List}
+use Prim.Native.Nat.{ℕ, _≤_}
+use native.Mathlib.Omega.{arith}
+use lib.ListN.{length, take}
+use borrow.Author.Needs.{needs}
+use Rattle.map.specs.Pool.{unmapped, free, assignBlocks}
+use Rattle.map.specs.Index.{places, putPlaces}
+use Rattle.map.specs.Write.{pool}
+use Rattle.map.proofs.Indexing.{length-places, missing-is}
+use Rattle.map.proofs.Blocks.{putPlaces-is, given-below}
+use Rattle.map.proofs.Answering.{try-full, try-done}
+use Rattle.map.proofs.write.write_blocks.Statement.{statement}
+use Rattle.map.proofs.write.write_blocks.Tie as tie
+
+index-of-requires : tie.Need-index-of-requires
+index-of-requires c κs = search needs
+
+slice-aggregate-missing-in : tie.Need-slice-aggregate-missing-in
+slice-aggregate-missing-in c = search needs
+
+missing-in-requires : tie.Need-missing-in-requires
+missing-in-requires c κs = omega (arith, (c .before .before .before .before .before .before .pre) .0, ap length (c .before .index-of .ensures), length-places (c .before .before .before .before .before .before .args .owners .now) ((c .before .before .before .before .before .before .args .lba) .0) 128)
+
+free-slots-requires : tie.Need-free-slots-requires
+free-slots-requires c κs = search needs
+
+same-length : tie.Need-same-length
+same-length c = search needs
+
+returns : tie.Need-returns
+returns c =
+    let a = (c .before .before .before .before .before .before .before .before .before .before .args) in
+    let m = missing-is (a .owners .now) (c .before .before .before .before .before .index-of .result) (a .lba .0) (a .count) (c .before .before .before .missing-in .result) (c .before .before .before .before .before .index-of .ensures) ((c .before .before .before .before .before .before .before .before .before .before .pre) .0) (c .before .before .before .missing-in .ensures) in
+    try-full (pool (a .owners .now) (a .medium .now)) (a .lba .0) (a .count) (a .bytes .now) (omega (arith, (c .before .free-slots .ensures)))
+
+slice-aggregate-assign-blocks : tie.Need-slice-aggregate-assign-blocks
+slice-aggregate-assign-blocks c = search needs
+
+assign-blocks-requires : tie.Need-assign-blocks-requires
+assign-blocks-requires c κs =
+    let a = (c .before .before .before .before .before .before .before .before .before .before .before .before .args) in
+    let m = missing-is (a .owners .now) (c .before .before .before .before .before .before .before .index-of .result) (a .lba .0) (a .count) (c .before .before .before .before .before .missing-in .result) (c .before .before .before .before .before .before .before .index-of .ensures) ((c .before .before .before .before .before .before .before .before .before .before .before .before .pre) .0) (c .before .before .before .before .before .missing-in .ensures) in
+    ((c .before .before .before .before .before .before .before .before .before .before .before .before .pre) .0, (c .before .before .before .before .before .before .before .before .before .before .before .before .pre) .1, (c .before .before .before .before .before .before .before .index-of .ensures), omega (arith, (c .before .before .before .free-slots .ensures), (c .before .before .if1 .left)))
+
+slice-aggregate-put-blocks : tie.Need-slice-aggregate-put-blocks
+slice-aggregate-put-blocks c = search needs
+
+put-blocks-requires : tie.Need-put-blocks-requires
+put-blocks-requires c κs =
+    let a = (c .before .before .before .before .before .before .before .before .before .before .before .before .before .before .before .before .before .before .args) in
+    let e = (c .before .before .before .before .before .assign-blocks .ensures) in
+    let m = missing-is (a .owners .now) (c .before .before .before .before .before .before .before .before .before .before .before .before .before .index-of .result) (a .lba .0) (a .count) (c .before .before .before .before .before .before .before .before .before .before .before .missing-in .result) (c .before .before .before .before .before .before .before .before .before .before .before .before .before .index-of .ensures) ((c .before .before .before .before .before .before .before .before .before .before .before .before .before .before .before .before .before .before .pre) .0) (c .before .before .before .before .before .before .before .before .before .before .before .missing-in .ensures) in
+    let r : unmapped (a .owners .now) (a .lba .0) (a .count) ≤ free (a .owners .now) = omega (arith, (c .before .before .before .before .before .before .before .before .before .free-slots .ensures), (c .before .before .before .before .before .before .before .before .if1 .left)) in
+    let n : length ((c .before .before .before .before .before .assign-blocks .last) .1 .0) ≡ 128 = ap length (e .1) ∙ length-places ((c .before .before .before .before .before .assign-blocks .last) .0) (a .lba .0) 128 in
+    ((c .before .before .before .before .before .before .before .before .before .before .before .before .before .before .before .before .before .before .pre) .0, (c .before .before .before .before .before .before .before .before .before .before .before .before .before .before .before .before .before .before .pre) .2, omega (arith, (c .before .before .before .before .before .before .before .before .before .before .before .before .before .before .before .before .before .before .pre) .0), (c .before .before .before .before .before .before .before .before .before .before .before .before .before .before .before .before .before .before .pre) .3, (c .before .before .before .before .before .before .before .before .before .before .before .before .before .before .before .before .before .before .pre) .4, λ k h. rw (e .1, e .0) (given-below (a .owners .now) (a .lba .0) (a .count) k r h ((c .before .before .before .before .before .before .before .before .before .before .before .before .before .before .before .before .before .before .pre) .0)))
+
+same-length-2 : tie.Need-same-length-2
+same-length-2 c = search needs
+
+same-length-3 : tie.Need-same-length-3
+same-length-3 c = search needs
+
+returns-2 : tie.Need-returns-2
+returns-2 c =
+    let a = (c .before .before .before .before .before .before .before .before .before .before .before .before .before .before .before .before .before .before .before .before .before .args) in
+    let e = (c .before .before .before .before .before .before .before .before .assign-blocks .ensures) in
+    let m = missing-is (a .owners .now) (c .before .before .before .before .before .before .before .before .before .before .before .before .before .before .before .before .index-of .result) (a .lba .0) (a .count) (c .before .before .before .before .before .before .before .before .before .before .before .before .before .before .missing-in .result) (c .before .before .before .before .before .before .before .before .before .before .before .before .before .before .before .before .index-of .ensures) ((c .before .before .before .before .before .before .before .before .before .before .before .before .before .before .before .before .before .before .before .before .before .pre) .0) (c .before .before .before .before .before .before .before .before .before .before .before .before .before .before .missing-in .ensures) in
+    let o = assignBlocks (a .owners .now) (a .lba .0) (a .count) in
+    let i : (c .before .before .before .before .before .before .before .before .assign-blocks .last) .1 .0 ≡ places o (a .lba .0) 128 = e .1 ∙ ap (λ (l : List ℕ). places l (a .lba .0) 128) (e .0) in
+    try-done (pool (a .owners .now) (a .medium .now)) (a .lba .0) (a .count) (a .bytes .now) _ _ (omega (arith, (c .before .before .before .before .before .before .before .before .before .before .before .before .free-slots .ensures), (c .before .before .before .before .before .before .before .before .before .before .before .if1 .left))) (e .0)
+    ((c .before .before .put-blocks .ensures) ∙ ap (λ (is : List ℕ). putPlaces (take (a .count) is) (a .medium .now) (a .bytes .now)) i ∙ putPlaces-is o (a .lba .0) 128 (a .count) (a .medium .now) (a .bytes .now) ((c .before .before .before .before .before .before .before .before .before .before .before .before .before .before .before .before .before .before .before .before .before .pre) .0))
+
+pub write-blocks-spec : {M : Type 1} → statement M
+write-blocks-spec =
+    tie.close
+    (tie.spec
+    index-of-requires
+    slice-aggregate-missing-in
+    missing-in-requires
+    free-slots-requires
+    same-length
+    returns
+    slice-aggregate-assign-blocks
+    assign-blocks-requires
+    slice-aggregate-put-blocks
+    put-blocks-requires
+    same-length-2
+    same-length-3
+    returns-2)

@@ -1,0 +1,80 @@
+-- Laws of a page of parameter data as it is put together, and of the keys by place.
+-- Assumes nothing.
+use mathlib.Core.Path.{_≡_, refl, sym, ap, _∙_}
+use mathlib.Core.Bool.{Bool, true, false, cond}
+use mathlib.Core.List.{List, [], _∷_, _++_, append-assoc, append-nil}
+use Prim.Native.Nat.{ℕ, _+_, _≤_, _<_}
+use native.Mathlib.Nat.{add-zero}
+use native.Mathlib.Numerals.{add-one}
+use native.Mathlib.Omega.{arith}
+use lib.ListN.{length, length-append, take, getD}
+use lib.Seq.{take-suc, take-all}
+use borrow.Author.Tests.{eq-eqb, ne-eqb}
+use Rattle.fields.specs.Field.{bytes}
+use Rattle.fields.proofs.FieldLaws.{length-bytes}
+use Rattle.reservations.specs.declared.Place.{Place}
+use Rattle.reservations.specs.declared.Rights.{Rights}
+use Rattle.reservations.specs.declared.told.Page.{Page}
+use Rattle.reservations.specs.Places.{used}
+use Rattle.reservations.specs.Told.{keys, keysData, holderKey, reservationData}
+use Rattle.reservations.specs.Page.{Shows, Appended, placeKey, reservationBody}
+
+-- ---- pages
+
+pub shows-more : (p q : Page) (l b : List ℕ) → Shows p l → Appended p b q → Shows q (l ++ b)
+shows-more p q l b s a = record {
+  fits = a .fits;
+  len = a .len ∙ rw (s .len) (sym (length-append l b));
+  bytes = a .bytes ∙ ap (λ t. t ++ b) (s .bytes);
+}
+
+-- ---- the keys by place
+
+pub key-none : (p : Page) (q : Place) → p .len ≤ 72 → q .key ≡ 0 → Appended p (placeKey q) p
+unfolding placeKey used
+key-none p q h e = rw (eq-eqb _ _ e) (record { fits = h; len = sym (add-zero _); bytes = sym (append-nil _) })
+
+pub key-some : (q : Place) → (q .key ≡ 0 → ⊥) → bytes 8 (q .key) ≡ placeKey q
+unfolding placeKey used
+key-some q e = rw (ne-eqb _ _ e)
+
+pub key-length : (q : Place) → length (placeKey q) ≤ 8
+unfolding placeKey
+key-length q = go (used q)
+  where
+    go : (b : Bool) → length (cond b (bytes 8 (q .key)) []) ≤ 8
+    go true = omega (arith, length-bytes 8 (q .key))
+    go false = omega arith
+
+keys-append : (a b : List Place) → keys (a ++ b) ≡ keys a ++ keys b
+unfolding keys
+keys-append [] b = refl
+keys-append (x ∷ a) b = rw (keys-append a b) (sym (append-assoc (cond (used x) (bytes 8 (x .key)) []) (keys a) (keys b)))
+
+one : (x : Place) → keys (x ∷ []) ≡ placeKey x
+unfolding keys placeKey
+one x = append-nil _
+
+pub keys-more : (l : List Place) (i : ℕ) (d : Place) → i < length l → keys (take (i + 1) l) ≡ keys (take i l) ++ placeKey (getD l i d)
+keys-more l i d h = rw (add-one, take-suc l i d h) (keys-append (take i l) (getD l i d ∷ []) ∙ ap (λ t. keys (take i l) ++ t) (one (getD l i d)))
+
+pub keys-none : (p : Page) (l : List Place) → Shows p [] → Shows p (keys (take 0 l))
+unfolding keys
+keys-none p l s = s
+
+pub keys-all : (l : List Place) (i : ℕ) → length l ≡ i → keys (take i l) ≡ keys l
+keys-all l i e = ap keys (take-all i l (omega arith))
+
+-- ---- put together
+
+pub keys-told : (r : Rights) → (bytes 4 (r .generation) ++ bytes 4 (length (keys (r .places)))) ++ keys (r .places) ≡ keysData r
+unfolding keysData
+keys-told r = append-assoc (bytes 4 (r .generation)) (bytes 4 (length (keys (r .places)))) (keys (r .places))
+
+pub reservation-none : (r : Rights) → r .kind ≡ 0 → bytes 4 (r .generation) ++ bytes 4 0 ≡ reservationData r
+unfolding reservationData
+reservation-none r e = rw (eq-eqb _ _ e)
+
+pub reservation-some : (r : Rights) → (r .kind ≡ 0 → ⊥) → bytes 4 (r .generation) ++ reservationBody (holderKey r) (r .kind) ≡ reservationData r
+unfolding reservationData reservationBody
+reservation-some r e = rw (ne-eqb _ _ e)

@@ -1,0 +1,37 @@
+-- `reservations::standing::holds` meets its contract.
+-- Assumes nothing.
+use mathlib.Core.Path.{_≡_, sym, _∙_}
+use mathlib.Core.Bool.{true, or-false}
+use borrow.Author.Needs.{needs}
+use Rattle.reservations.specs.Rights.{oneHolds, holds}
+use Rattle.reservations.proofs.RightsLaws.{one-not-all}
+use Rattle.reservations.proofs.standing.holds.Statement.{statement}
+use Rattle.reservations.proofs.standing.holds.Tie as tie
+
+one-holds-requires : tie.Need-one-holds-requires
+one-holds-requires c κs = search needs
+
+returns : tie.Need-returns
+unfolding holds
+returns c =
+    let e : oneHolds (c .before .before .before .args .rights .kind) ≡ true = sym (c .before .before .one-holds .ensures) ∙ c .before .if1 .taken in
+    simp (e, one-not-all _ e, or-false)
+
+all-hold-requires : tie.Need-all-hold-requires
+all-hold-requires c κs = search needs
+
+has-requires : tie.Need-has-requires
+has-requires c κs = search needs
+
+returns-2 : tie.Need-returns-2
+unfolding holds
+returns-2 c = simp (sym (c .before .before .before .before .before .one-holds .ensures) ∙ c .before .before .before .before .if1 .left, sym (c .before .before .before .all-hold .ensures) ∙ c .before .before .if2 .taken, c .has .ensures)
+
+returns-3 : tie.Need-returns-3
+unfolding holds
+returns-3 c = simp (sym (c .before .before .before .one-holds .ensures) ∙ c .before .before .if1 .left, sym (c .before .all-hold .ensures) ∙ c .if2 .left)
+
+pub holds-spec : {M : Type 1} → statement M
+holds-spec =
+    tie.close
+    (tie.spec one-holds-requires returns all-hold-requires has-requires returns-2 returns-3)

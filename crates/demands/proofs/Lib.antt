@@ -9,3 +9,11 @@ pub mod UselessFail
 pub mod Witness
 pub mod Generation
 pub mod Demand2
+pub mod Moving
+pub mod Transfers
+pub mod Unmaps
+pub mod WhenGood
+pub mod Checking
+pub mod Slots
+pub mod Widths
+pub mod Storage

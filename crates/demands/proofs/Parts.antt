@@ -104,7 +104,7 @@ own-refused f k s c t =
 
 -- ---- a usable store is not seen by the tests before a command's own
 
-usable-passes : (s : Store) → T (usable s) → first (storeRows s) ≡ Good
+pub usable-passes : (s : Store) → T (usable s) → first (storeRows s) ≡ Good
 unfolding storeRows first
 usable-passes s u = go (usable s) u
   where

@@ -110,7 +110,7 @@ unfolding typeRows refuses
 type-right cdb e =
     not-not (isType (byte 2 cdb % 16)) (false→T _ (row-fails invalidField (not (isType (byte 2 cdb % 16))) _ tt (rows-after invalidField _ _ tt e)))
 
-form-fields : (f : Form) (k : Kind) (cdb : List ℕ) → first (formRows f k cdb) ≡ Good → first (fieldRows f k cdb) ≡ Good
+pub form-fields : (f : Form) (k : Kind) (cdb : List ℕ) → first (formRows f k cdb) ≡ Good → first (fieldRows f k cdb) ≡ Good
 unfolding formRows refuses
 form-fields f k cdb e = rows-after invalidField _ _ tt (rows-after Unusable _ _ tt (rows-after notListed _ _ tt e))
 
@@ -137,7 +137,7 @@ altered-ok f a r c t n e d =
 
 -- ---- a call
 
-after-conflict : (f : Form) (m : Move) (s : Store) (c : Call) → first (ownRows f (Moves m) s c) ≡ Good
+pub after-conflict : (f : Form) (m : Move) (s : Store) (c : Call) → first (ownRows f (Moves m) s c) ≡ Good
     → first (rangeRows f m (s .unit .capacity) (s .pool) c) ≡ Good
 unfolding ownRows moveRows refuses
 after-conflict f m s c e = rows-after Conflict _ _ tt e

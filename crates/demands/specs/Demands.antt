@@ -2,18 +2,26 @@
 -- Assumes nothing.
 use mathlib.Core.Path.{_≡_}
 use mathlib.Core.Logic.{_≢_}
-use mathlib.Core.Bool.{not}
+use mathlib.Core.Bool.{not, cond}
 use mathlib.Core.List.{List, [], _∷_}
-use Prim.Native.Nat.{_+_, _%_, _^_}
+use Prim.Native.Nat.{ℕ, _+_, _*_, _%_, _^_}
 use lib.Dec.{T}
-use lib.ListN.{length, drop}
-use Rattle.answers.specs.declared.Answer.the-variants.{Good}
+use lib.ListN.{length, drop, take}
+use Rattle.fields.specs.Bytes.{zeros}
+use Rattle.answers.specs.declared.Answer.the-variants.{Good, Unusable}
 use Rattle.answers.specs.Answers.{numberOf, senseAfter}
 use Rattle.reservations.specs.Rights.{isOneOf}
-use Rattle.commands.specs.Store.{Store, Call, usable}
+use Rattle.map.specs.declared.Checked.the-variants.{Valid}
+use Rattle.map.specs.Pool.{readBlock}
+use Rattle.map.specs.Valid.{checked}
+use Rattle.forms.specs.declared.Move.{Move}
+use Rattle.forms.specs.declared.Move.the-variants.{Read, Write, Unmap}
+use Rattle.commands.specs.Store.{Store, Call, usable, seenOf}
+use Rattle.commands.specs.Fresh.{freshStore}
 use Rattle.commands.specs.Step.{step}
 use Rattle.demands.specs.History.{Build, after, isOut, isShutOut, watched, heard}
 use Rattle.demands.specs.Checker.{allPassed}
+use Rattle.demands.specs.Contents.{Asks, IsGood, countIn, SameRange, Apart, descriptorsOf, names, Same, seenAll, isTransfer, SaysSame}
 use Rattle.demands.specs.Cases.{cases}
 use Rattle.demands.specs.Generation.{generation, raising}
 
@@ -38,7 +46,7 @@ pub record Demand1 (f : Build) : Type 0 where
   pub owners-length : (s : Store) (c : Call) → length (after f s c .pool .owners) ≡ length (s .pool .owners)
   pub medium-length : (s : Store) (c : Call) → length (after f s c .pool .medium) ≡ length (s .pool .medium)
 
--- Demand 2. Answer, state and every lent byte are what document 01 says: its meaning is `step`.
+-- Demand 2. "Every answer and the whole state after it are what SPC and SBC define, as document 01 condenses them": its meaning is `step`.
 pub record Demand2 (f : Build) : Type 0 where
   pub exact : (s : Store) (c : Call) → f s c ≡ step s c
   -- "A to L are proved of the definitions by one statement over their list"
@@ -48,6 +56,27 @@ pub record Demand2 (f : Build) : Type 0 where
       → generation (after f s c) ≡ (generation s + 1) % 2 ^ 32
   pub generation-stays : (s : Store) (c : Call) → T (not (raising s c)) → generation (after f s c) ≡ generation s
   pub generation-refused : (s : Store) (c : Call) → f s c .seen .answer ≢ Good → generation (after f s c) ≡ generation s
+
+-- Demand 2 as those put it who write and read: what the meaning, `step`, says of blocks.
+pub record Storage : Type 0 where
+  -- a READ after a WRITE of the same blocks, each in whichever form and by whomever, returns the data written
+  pub write-then-read : (s : Store) (w r : Call) → Asks Write w → Asks Read r → SameRange w r → IsGood s w → IsGood (after step s w) r
+      → take (512 * countIn w) (step (after step s w) r .seen .dataIn) ≡ take (512 * countIn w) (w .dataOut)
+  -- a READ of other blocks sees nothing of a WRITE
+  pub write-keeps-others : (s : Store) (w r : Call) → Asks Write w → Asks Read r → Apart w r → step (after step s w) r .seen ≡ step s r .seen
+  -- after an UNMAP the blocks that a considered descriptor names read as zeros, and all others as before
+  pub unmap-contents : (s : Store) (c : Call) → Asks Unmap c → IsGood s c → (b : ℕ)
+      → readBlock (after step s c .pool) b ≡ cond (names (descriptorsOf c) b) (zeros 512) (readBlock (s .pool) b)
+  -- a fresh store reads as zeros, whatever lies in its medium
+  pub fresh-reads-zeros : (capacity slots : ℕ) (medium : List ℕ) (r : Call) → Asks Read r → IsGood (freshStore capacity slots medium) r
+      → step (freshStore capacity slots medium) r .seen ≡ seenOf Good (zeros (512 * countIn r)) r
+  -- slots do not matter: stores that agree on the unit's record, on contents and on free slots answer alike for ever
+  pub slots-hidden : (s t : Store) → T (usable s) → T (usable t) → Same s t → (cs : List Call) → seenAll step s cs ≡ seenAll step t cs
+  -- "The shared fact for 10 and 16 byte forms is proved once over field width."
+  pub forms-agree : (m : Move) → T (isTransfer m) → (s : Store) (c d : Call) → Asks m c → Asks m d → SaysSame c d → step s c ≡ step s d
+  -- "no two slots name one block": a map with a slot beyond the capacity or a clash is refused, and every usable store's passes its check
+  pub clash-refused : (s : Store) (c : Call) → checked (s .unit .capacity) (s .pool .owners) ≢ Valid → step s c .seen .answer ≡ Unusable
+  pub usable-checked : (s : Store) → T (usable s) → checked (s .unit .capacity) (s .pool .owners) ≡ Valid
 
 -- Demand 3. What a nexus learns that is shut out from reading.
 pub record Demand3 (f : Build) : Type 0 where

@@ -6,4 +6,5 @@ pub mod FurtherCases
 pub mod Generation
 pub mod Useless
 pub mod Witness
+pub mod Contents
 pub mod Demands

@@ -1,6 +1,6 @@
 -- Laws of the table of commands. Each rule of its rows is one test over all lines.
 -- Assumes nothing.
-use mathlib.Core.Path.{_≡_, refl, sym, subst, _∙_}
+use mathlib.Core.Path.{_≡_, refl, sym, subst}
 use mathlib.Core.Bool.{Bool, true, false, not, _&&_, _||_, cond, true≢false}
 use mathlib.Core.List.{List, [], _∷_}
 use Prim.Native.Nat.{ℕ, _+_, _^_, _≤_, _<_}
@@ -8,14 +8,11 @@ use native.Mathlib.Nat.{pow-le-pow-right, lt-of-lt-of-le}
 use lib.Dec.{T, eqb, leb, eqb→eq, leb→le, lit<}
 use Rattle.fields.specs.Field.{byte}
 use Rattle.fields.proofs.Tests.{and-l, and-r, or-other, nand-rest, not-not-intro, true→T, false→T}
-use Rattle.forms.specs.declared.Tell.{Tell}
-use Rattle.forms.specs.declared.Move.{Move}
-use Rattle.forms.specs.declared.Move.the-variants.{Read, Write, Unmap}
 use Rattle.forms.specs.declared.Kind.{Kind}
 use Rattle.forms.specs.declared.Kind.the-variants.{Tells, Moves, Alters, Unknown, Unlisted}
 use Rattle.forms.specs.declared.Span.{Span}
 use Rattle.forms.specs.declared.Form.{Form}
-use Rattle.forms.specs.Forms.{form, absent, Line, Actions, any, only, takes, lines, lookup, formFor, formOf, action}
+use Rattle.forms.specs.Forms.{form, absent, Line, takes, lines, lookup, formFor, formOf, action}
 use Rattle.forms.specs.Tests.{isUnlisted}
 use Rattle.forms.specs.Sound.{Sound}
 

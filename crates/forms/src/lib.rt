@@ -4,7 +4,7 @@ ghost use Prim.Native.Nat.{_<_, _^_};
 ghost use Rattle.answers.specs.Order.{first};
 ghost use Rattle.forms.specs.Forms.{formOf, addressOf, sizeOf, action};
 ghost use Rattle.forms.specs.Sound.{Sound};
-ghost use Rattle.forms.specs.Tests.{formRows, isUnlisted};
+ghost use Rattle.forms.specs.Tests.{formRows};
 use answers::Answer;
 use reservations::Action;
 

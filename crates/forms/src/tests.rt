@@ -1,12 +1,11 @@
 // The tests of a CDB's fields by the kind of its command.
 ghost use mathlib.Core.Path.{_≡_};
-ghost use Prim.Native.Nat.{_<_, _≤_, _-_};
+ghost use Prim.Native.Nat.{_≤_, _-_};
 ghost use Rattle.fields.specs.Field.{byte, bit};
 ghost use Rattle.answers.specs.Order.{first};
 ghost use Rattle.reservations.specs.Rights.{isType};
 ghost use Rattle.forms.specs.declared.Form.{Form as FormOf};
 ghost use Rattle.forms.specs.declared.Kind.the-variants.{Tells, Moves, Alters};
-ghost use Rattle.forms.specs.Forms.{sizeOf};
 ghost use Rattle.forms.specs.Sound.{Sound};
 ghost use Rattle.forms.specs.Tests.{isUnlisted, inquiryRows, transferRows, unmapRows, typeRows, fieldRows};
 use super::Form;

@@ -71,7 +71,8 @@ pub fn read(
     count: usize,
     out: &mut [u8],
 ) -> Mapped
-    ensures { λ r. ⌜ Product.read r (now (out .exit)) ≡ Product.readOf capacity (pool (now (owners .entry)) (now (medium .entry))) (lba .0) count (now (out .entry)) ⌝ }
+    ensures { λ r. ⌜ Product.read r (now (out .exit))
+        ≡ Product.readOf capacity (pool (now (owners .entry)) (now (medium .entry))) (lba .0) count (now (out .entry)) ⌝ }
 {
     let pool = usable(capacity, owners, medium);
     let Mapped::Done = pool else {
@@ -94,7 +95,8 @@ pub fn write(
     count: usize,
     bytes: &[u8],
 ) -> Mapped
-    ensures { λ r. ⌜ Product.wrote r (now (owners .exit)) (now (medium .exit)) ≡ Product.writeOf capacity (pool (now (owners .entry)) (now (medium .entry))) (lba .0) count (now (bytes .entry)) ⌝ }
+    ensures { λ r. ⌜ Product.wrote r (now (owners .exit)) (now (medium .exit))
+        ≡ Product.writeOf capacity (pool (now (owners .entry)) (now (medium .entry))) (lba .0) count (now (bytes .entry)) ⌝ }
 {
     let pool = usable(capacity, owners, medium);
     let Mapped::Done = pool else {
@@ -113,7 +115,8 @@ pub fn write(
 
 // The slots of the range are freed and their bytes stay; a refusal leaves all.
 pub fn unmap(capacity: u64, owners: &mut [u64], medium: &[u8], lba: Lba, count: u64) -> Mapped
-    ensures { λ r. ⌜ Product.left r (now (owners .exit)) ≡ Product.unmapOf capacity (pool (now (owners .entry)) (now (medium .entry))) (lba .0) count ⌝ }
+    ensures { λ r. ⌜ Product.left r (now (owners .exit))
+        ≡ Product.unmapOf capacity (pool (now (owners .entry)) (now (medium .entry))) (lba .0) count ⌝ }
 {
     let pool = usable(capacity, owners, medium);
     let Mapped::Done = pool else {

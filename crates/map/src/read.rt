@@ -30,8 +30,13 @@ fn read_slot(medium: &[u8], slots: usize, slot: Slot, out: &mut [u8])
 // The first bytes of `out` become those of `count` blocks. The bounds are what the caller has tested of its call: with them
 // the index covers the range, no sum wraps, each slot has its bytes and `out` has room.
 pub fn read_blocks(owners: &[u64], medium: &[u8], lba: Lba, count: usize, out: &mut [u8])
-    requires { ⌜ (count ≤ 128) × (lba .0 + count ≤ 2 ^ 40) × (length (now owners) ≤ 128) × (length (now medium) ≡ 512 * length (now owners)) × (512 * count ≤ length (now out)) ⌝ }
-    ensures { λ _. ⌜ now (out .exit) ≡ put (now (out .entry)) 0 (readBlocks (pool (now (owners .entry)) (now (medium .entry))) (lba .0) count) ⌝ }
+    requires { ⌜ (count ≤ 128)
+        × (lba .0 + count ≤ 2 ^ 40)
+        × (length (now owners) ≤ 128)
+        × (length (now medium) ≡ 512 * length (now owners))
+        × (512 * count ≤ length (now out)) ⌝ }
+    ensures { λ _. ⌜ now (out .exit)
+        ≡ put (now (out .entry)) 0 (readBlocks (pool (now (owners .entry)) (now (medium .entry))) (lba .0) count) ⌝ }
 {
     let index = index::index_of(owners, lba);
     let slots = owners.len();

@@ -26,8 +26,12 @@ fn next_free(owners: &[u64], from: usize) -> usize
 // Each unmapped address of the range, in rising order, gets the lowest free slot, and the index its place. Below the
 // cursor no slot is free, so the search for the next one never goes back.
 fn assign_blocks(owners: &mut [u64], index: &mut [usize], lba: Lba, count: usize)
-    requires { ⌜ (count ≤ 128) × (lba .0 + count ≤ 2 ^ 40) × (now index ≡ places (now owners) (lba .0) 128) × (unmapped (now owners) (lba .0) count ≤ free (now owners)) ⌝ }
-    ensures { λ _. ⌜ (now (owners .exit) ≡ assignBlocks (now (owners .entry)) (lba .0) count) × (now (index .exit) ≡ places (now (owners .exit)) (lba .0) 128) ⌝ }
+    requires { ⌜ (count ≤ 128)
+        × (lba .0 + count ≤ 2 ^ 40)
+        × (now index ≡ places (now owners) (lba .0) 128)
+        × (unmapped (now owners) (lba .0) count ≤ free (now owners)) ⌝ }
+    ensures { λ _. ⌜ (now (owners .exit) ≡ assignBlocks (now (owners .entry)) (lba .0) count)
+        × (now (index .exit) ≡ places (now (owners .exit)) (lba .0) 128) ⌝ }
 {
     let a = lba.0;
     let n = owners.len();
@@ -44,8 +48,14 @@ fn assign_blocks(owners: &mut [u64], index: &mut [usize], lba: Lba, count: usize
 
 // Each block's bytes go to its place.
 fn put_blocks(medium: &mut [u8], index: &[usize], slots: usize, count: usize, bytes: &[u8])
-    requires { ⌜ (count ≤ 128) × (slots ≤ 128) × (count ≤ length (now index)) × (length (now medium) ≡ 512 * slots) × (512 * count ≤ length (now bytes)) × ((k : ℕ) → k < count → getD (now index) k 0 < slots) ⌝ }
-    ensures { λ _. ⌜ now (medium .exit) ≡ putPlaces (take count (now (index .entry))) (now (medium .entry)) (now (bytes .entry)) ⌝ }
+    requires { ⌜ (count ≤ 128)
+        × (slots ≤ 128)
+        × (count ≤ length (now index))
+        × (length (now medium) ≡ 512 * slots)
+        × (512 * count ≤ length (now bytes))
+        × ((k : ℕ) → k < count → getD (now index) k 0 < slots) ⌝ }
+    ensures { λ _. ⌜ now (medium .exit)
+        ≡ putPlaces (take count (now (index .entry))) (now (medium .entry)) (now (bytes .entry)) ⌝ }
 {
     for k in 0..count {
         let from = 512 * k;
@@ -64,8 +74,13 @@ pub fn write_blocks(
     count: usize,
     bytes: &[u8],
 ) -> bool
-    requires { ⌜ (count ≤ 128) × (lba .0 + count ≤ 2 ^ 40) × (length (now owners) ≤ 128) × (length (now medium) ≡ 512 * length (now owners)) × (512 * count ≤ length (now bytes)) ⌝ }
-    ensures { λ r. ⌜ written r (now (owners .exit)) (now (medium .exit)) ≡ tryWrite (pool (now (owners .entry)) (now (medium .entry))) (lba .0) count (now (bytes .entry)) ⌝ }
+    requires { ⌜ (count ≤ 128)
+        × (lba .0 + count ≤ 2 ^ 40)
+        × (length (now owners) ≤ 128)
+        × (length (now medium) ≡ 512 * length (now owners))
+        × (512 * count ≤ length (now bytes)) ⌝ }
+    ensures { λ r. ⌜ written r (now (owners .exit)) (now (medium .exit))
+        ≡ tryWrite (pool (now (owners .entry)) (now (medium .entry))) (lba .0) count (now (bytes .entry)) ⌝ }
 {
     let mut index = index::index_of(owners, lba);
     let slots = owners.len();

@@ -15,10 +15,12 @@ slice-aggregate-missing-in : tie.Need-slice-aggregate-missing-in
 slice-aggregate-missing-in c = search needs
 
 missing-in-requires : tie.Need-missing-in-requires
-missing-in-requires c κs = omega (arith, (c .before .before .before .pre) .0, ap length (c .before .index-of .ensures), length-places (c .before .before .before .args .owners .now) ((c .before .before .before .args .lba) .0) 128)
+missing-in-requires c κs = omega (arith, c .before .before .before .pre .0, ap length (c .before .index-of .ensures), length-places (c .before .before .before .args .owners .now) (c .before .before .before .args .lba .0) 128)
 
 returns : tie.Need-returns
-returns c = missing-is (c .before .before .before .before .args .owners .now) _ ((c .before .before .before .before .args .lba) .0) (c .before .before .before .before .args .count) _ (c .before .before .index-of .ensures) ((c .before .before .before .before .pre) .0) (c .missing-in .ensures)
+returns c =
+    let c₄ = c .before .before .before .before in
+    missing-is (c₄ .args .owners .now) _ (c₄ .args .lba .0) (c₄ .args .count) _ (c .before .before .index-of .ensures) (c₄ .pre .0) (c .missing-in .ensures)
 
 pub unmapped-in-spec : {M : Type 1} → statement M
 unmapped-in-spec =

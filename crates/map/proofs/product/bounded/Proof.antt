@@ -24,8 +24,9 @@ returns-2 c =
 
 returns-3 : tie.Need-returns-3
 returns-3 c =
-    let h = ltb-false 1099511627776 (c .before .before .before .before .args .capacity) (c .before .before .if2 .left) in
-    let k = ltb-false 128 (c .before .before .before .before .args .slots) (c .if4 .left) in
+    let c₄ = c .before .before .before .before in
+    let h = ltb-false 1099511627776 (c₄ .args .capacity) (c .before .before .if2 .left) in
+    let k = ltb-false 128 (c₄ .args .slots) (c .if4 .left) in
     bounds-good _ _ (omega arith) (omega arith) (omega arith) (omega arith)
 
 pub bounded-spec : {M : Type 1} → statement M

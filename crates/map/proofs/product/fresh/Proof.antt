@@ -22,7 +22,10 @@ same-length : tie.Need-same-length
 same-length c = search needs
 
 returns-2 : tie.Need-returns-2
-returns-2 c = fresh-done (c .before .before .before .before .before .before .before .before .args .capacity) (c .before .before .before .before .before .before .before .before .args .owners .now) _ (sym (c .before .before .before .before .before .before .bounded .ensures) ∙ (c .before .before .before .before .enum-told .given .1)) (c .before .before .free-all .ensures)
+returns-2 c =
+    let c₆ = c .before .before .before .before .before .before in
+    let c₈ = c₆ .before .before in
+    fresh-done (c₈ .args .capacity) (c₈ .args .owners .now) _ (sym (c₆ .bounded .ensures) ∙ (c .before .before .before .before .enum-told .given .1)) (c .before .before .free-all .ensures)
 
 pub fresh-spec : {M : Type 1} → statement M
 fresh-spec =

@@ -29,16 +29,19 @@ enum-told-2 c = search needs
 
 returns-2 : tie.Need-returns-2
 returns-2 c =
-    let a = (c .before .before .before .before .before .before .before .before .args) in
+    let c₈ = c .before .before .before .before .before .before .before .before in
+    let a = c₈ .args in
     let p = pool (a .owners .now) (a .medium .now) in
     let u : usable (a .capacity) p ≡ Done = sym (c .before .before .before .before .usable .ensures) ∙ (c .before .before .enum-told .given .1) in
     read-refused (a .capacity) p (a .lba .0) (a .count) _ _ u (c .before .transfer .ensures) (refused _ (c .match2 .keys2))
 
 read-blocks-requires : tie.Need-read-blocks-requires
 read-blocks-requires c κs =
-    let a = (c .before .before .before .before .before .before .before .before .before .before .args) in
+    let c₆ = c .before .before .before .before .before .before in
+    let c₁₀ = c₆ .before .before .before .before in
+    let a = c₁₀ .args in
     let p = pool (a .owners .now) (a .medium .now) in
-    let u : usable (a .capacity) p ≡ Done = sym (c .before .before .before .before .before .before .usable .ensures) ∙ (c .before .before .before .before .enum-told .given .1) in
+    let u : usable (a .capacity) p ≡ Done = sym (c₆ .usable .ensures) ∙ (c .before .before .before .before .enum-told .given .1) in
     may-move (a .capacity) p (a .lba .0) (a .count) (length (a .out .now)) u (sym (c .before .before .before .transfer .ensures) ∙ (c .before .enum-told2 .given .1))
 
 same-length : tie.Need-same-length
@@ -46,10 +49,14 @@ same-length c = search needs
 
 returns-3 : tie.Need-returns-3
 returns-3 c =
-    let a = (c .before .before .before .before .before .before .before .before .before .before .before .before .before .args) in
+    let c₆ = c .before .before .before .before .before .before in
+    let c₇ = c₆ .before in
+    let c₉ = c₇ .before .before in
+    let c₁₃ = c₉ .before .before .before .before in
+    let a = c₁₃ .args in
     let p = pool (a .owners .now) (a .medium .now) in
-    let u : usable (a .capacity) p ≡ Done = sym (c .before .before .before .before .before .before .before .before .before .usable .ensures) ∙ (c .before .before .before .before .before .before .before .enum-told .given .1) in
-    read-done (a .capacity) p (a .lba .0) (a .count) (a .out .now) _ u (sym (c .before .before .before .before .before .before .transfer .ensures) ∙ (c .before .before .before .before .enum-told2 .given .1)) (c .before .before .read-blocks .ensures)
+    let u : usable (a .capacity) p ≡ Done = sym (c₉ .usable .ensures) ∙ (c₇ .enum-told .given .1) in
+    read-done (a .capacity) p (a .lba .0) (a .count) (a .out .now) _ u (sym (c₆ .transfer .ensures) ∙ (c .before .before .before .before .enum-told2 .given .1)) (c .before .before .read-blocks .ensures)
 
 pub read-spec : {M : Type 1} → statement M
 read-spec =

@@ -32,7 +32,8 @@ same-length-2 c = search needs
 
 returns-2 : tie.Need-returns-2
 returns-2 c =
-    let a = (c .before .before .before .before .before .before .before .args) in
+    let c₇ = c .before .before .before .before .before .before .before in
+    let a = c₇ .args in
     let p = pool (a .owners .now) (a .medium .now) in
     let u : usable (a .capacity) p ≡ Done = sym (c .before .before .before .usable .ensures) ∙ (c .before .enum-told .given .1) in
     unmap-beyond (a .capacity) p (a .lba .0) (a .count) u
@@ -40,7 +41,8 @@ returns-2 c =
 
 unmap-blocks-requires : tie.Need-unmap-blocks-requires
 unmap-blocks-requires c κs =
-    let a = (c .before .before .before .before .before .before .before .before .before .args) in
+    let c₉ = c .before .before .before .before .before .before .before .before .before in
+    let a = c₉ .args in
     let p = pool (a .owners .now) (a .medium .now) in
     let u : usable (a .capacity) p ≡ Done = sym (c .before .before .before .before .before .usable .ensures) ∙ (c .before .before .before .enum-told .given .1) in
     let f = usable-has (a .capacity) p u in
@@ -52,9 +54,12 @@ same-length-3 c = search needs
 
 returns-3 : tie.Need-returns-3
 returns-3 c =
-    let a = (c .before .before .before .before .before .before .before .before .before .before .before .before .args) in
+    let c₆ = c .before .before .before .before .before .before in
+    let c₈ = c₆ .before .before in
+    let c₁₂ = c₈ .before .before .before .before in
+    let a = c₁₂ .args in
     let p = pool (a .owners .now) (a .medium .now) in
-    let u : usable (a .capacity) p ≡ Done = sym (c .before .before .before .before .before .before .before .before .usable .ensures) ∙ (c .before .before .before .before .before .before .enum-told .given .1) in
+    let u : usable (a .capacity) p ≡ Done = sym (c₈ .usable .ensures) ∙ (c₆ .enum-told .given .1) in
     let h = ltb-false (a .capacity - a .lba .0) (a .count) (c .before .before .before .before .if2 .left) in
     unmap-done (a .capacity) p (a .lba .0) (a .count) u _ (omega arith) (c .before .before .unmap-blocks .ensures)
 

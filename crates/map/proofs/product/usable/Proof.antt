@@ -18,16 +18,21 @@ enum-told : tie.Need-enum-told
 enum-told c = search needs
 
 returns : tie.Need-returns
-returns c = usable-bounds (c .before .before .before .before .args .capacity) (pool (c .before .before .before .before .args .owners .now) (c .before .before .before .before .args .medium .now)) _ (c .before .bounded .ensures) (refused _ (c .match .keys2))
+returns c =
+    let c₄ = c .before .before .before .before in
+    usable-bounds (c₄ .args .capacity) (pool (c₄ .args .owners .now) (c₄ .args .medium .now)) _ (c .before .bounded .ensures) (refused _ (c .match .keys2))
 
 mul-if1 : tie.Need-mul-if1
 mul-if1 c =
-    let b : bounds (c .before .before .before .before .before .args .capacity) (length (c .before .before .before .before .before .args .owners .now)) ≡ Done = sym (c .before .before .bounded .ensures) ∙ (c .enum-told .given .1) in
-    let h = bounds-has (c .before .before .before .before .before .args .capacity) (length (c .before .before .before .before .before .args .owners .now)) b in
+    let c₅ = c .before .before .before .before .before in
+    let b : bounds (c₅ .args .capacity) (length (c₅ .args .owners .now)) ≡ Done = sym (c .before .before .bounded .ensures) ∙ (c .enum-told .given .1) in
+    let h = bounds-has (c₅ .args .capacity) (length (c₅ .args .owners .now)) b in
     omega arith
 
 returns-2 : tie.Need-returns-2
-returns-2 c = usable-medium (c .before .before .before .before .before .before .args .capacity) (pool (c .before .before .before .before .before .before .args .owners .now) (c .before .before .before .before .before .before .args .medium .now)) (sym (c .before .before .before .bounded .ensures) ∙ (c .before .enum-told .given .1)) (c .if1 .taken)
+returns-2 c =
+    let c₆ = c .before .before .before .before .before .before in
+    usable-medium (c₆ .args .capacity) (pool (c₆ .args .owners .now) (c₆ .args .medium .now)) (sym (c .before .before .before .bounded .ensures) ∙ (c .before .enum-told .given .1)) (c .if1 .taken)
 
 check-requires : tie.Need-check-requires
 check-requires c κs = search needs
@@ -43,17 +48,23 @@ enum-known-s-2 c = search needs
 
 returns-3 : tie.Need-returns-3
 returns-3 c =
-    usable-valid (c .before .before .before .before .before .before .before .before .before .args .capacity) (pool (c .before .before .before .before .before .before .before .before .before .args .owners .now) (c .before .before .before .before .before .before .before .before .before .args .medium .now)) (sym (c .before .before .before .before .before .before .bounded .ensures) ∙ (c .before .before .before .before .enum-told .given .1)) (c .before .before .before .if1 .left)
+    let c₆ = c .before .before .before .before .before .before in
+    let c₉ = c₆ .before .before .before in
+    usable-valid (c₉ .args .capacity) (pool (c₉ .args .owners .now) (c₉ .args .medium .now)) (sym (c₆ .bounded .ensures) ∙ (c .before .before .before .before .enum-told .given .1)) (c .before .before .before .if1 .left)
     (sym (c .before .before .check .ensures) ∙ (c .enum-told2 .given .1))
 
 returns-4 : tie.Need-returns-4
 returns-4 c =
-    usable-beyond (c .before .before .before .before .before .before .before .before .before .before .args .capacity) (pool (c .before .before .before .before .before .before .before .before .before .before .args .owners .now) (c .before .before .before .before .before .before .before .before .before .before .args .medium .now)) (sym (c .before .before .before .before .before .before .before .bounded .ensures) ∙ (c .before .before .before .before .before .enum-told .given .1)) (c .before .before .before .before .if1 .left) _
+    let c₇ = c .before .before .before .before .before .before .before in
+    let c₁₀ = c₇ .before .before .before in
+    usable-beyond (c₁₀ .args .capacity) (pool (c₁₀ .args .owners .now) (c₁₀ .args .medium .now)) (sym (c₇ .bounded .ensures) ∙ (c .before .before .before .before .before .enum-told .given .1)) (c .before .before .before .before .if1 .left) _
     (sym (c .before .before .before .check .ensures) ∙ (c .before .s .given .1))
 
 returns-5 : tie.Need-returns-5
 returns-5 c =
-    usable-clash (c .before .before .before .before .before .before .before .before .before .before .args .capacity) (pool (c .before .before .before .before .before .before .before .before .before .before .args .owners .now) (c .before .before .before .before .before .before .before .before .before .before .args .medium .now)) (sym (c .before .before .before .before .before .before .before .bounded .ensures) ∙ (c .before .before .before .before .before .enum-told .given .1)) (c .before .before .before .before .if1 .left) _ _
+    let c₇ = c .before .before .before .before .before .before .before in
+    let c₁₀ = c₇ .before .before .before in
+    usable-clash (c₁₀ .args .capacity) (pool (c₁₀ .args .owners .now) (c₁₀ .args .medium .now)) (sym (c₇ .bounded .ensures) ∙ (c .before .before .before .before .before .enum-told .given .1)) (c .before .before .before .before .if1 .left) _ _
     (sym (c .before .before .before .check .ensures) ∙ (c .before .s2 .given .1))
 
 pub usable-spec : {M : Type 1} → statement M

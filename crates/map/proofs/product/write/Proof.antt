@@ -24,7 +24,8 @@ same-length-2 c = search needs
 
 returns : tie.Need-returns
 returns c =
-    let a = (c .before .before .before .before .before .before .before .args) in
+    let c₇ = c .before .before .before .before .before .before .before in
+    let a = c₇ .args in
     write-unusable (a .capacity) (pool (a .owners .now) (a .medium .now)) (a .lba .0) (a .count) (a .bytes .now) _ (c .before .usable .ensures) (refused _ (c .match .keys2))
 
 transfer-requires : tie.Need-transfer-requires
@@ -41,16 +42,19 @@ same-length-4 c = search needs
 
 returns-2 : tie.Need-returns-2
 returns-2 c =
-    let a = (c .before .before .before .before .before .before .before .before .before .before .args) in
+    let c₁₀ = c .before .before .before .before .before .before .before .before .before .before in
+    let a = c₁₀ .args in
     let p = pool (a .owners .now) (a .medium .now) in
     let u : usable (a .capacity) p ≡ Done = sym (c .before .before .before .before .usable .ensures) ∙ (c .before .before .enum-told .given .1) in
     write-refused (a .capacity) p (a .lba .0) (a .count) (a .bytes .now) _ u (c .before .transfer .ensures) (refused _ (c .match2 .keys2))
 
 write-blocks-requires : tie.Need-write-blocks-requires
 write-blocks-requires c κs =
-    let a = (c .before .before .before .before .before .before .before .before .before .before .before .before .before .args) in
+    let c₇ = c .before .before .before .before .before .before .before in
+    let c₁₃ = c₇ .before .before .before .before .before .before in
+    let a = c₁₃ .args in
     let p = pool (a .owners .now) (a .medium .now) in
-    let u : usable (a .capacity) p ≡ Done = sym (c .before .before .before .before .before .before .before .usable .ensures) ∙ (c .before .before .before .before .before .enum-told .given .1) in
+    let u : usable (a .capacity) p ≡ Done = sym (c₇ .usable .ensures) ∙ (c .before .before .before .before .before .enum-told .given .1) in
     may-move (a .capacity) p (a .lba .0) (a .count) (length (a .bytes .now)) u (sym (c .before .before .before .before .transfer .ensures) ∙ (c .before .before .enum-told2 .given .1))
 
 same-length-5 : tie.Need-same-length-5
@@ -61,10 +65,15 @@ same-length-6 c = search needs
 
 returns-3 : tie.Need-returns-3
 returns-3 c =
-    let a = (c .before .before .before .before .before .before .before .before .before .before .before .before .before .before .before .before .before .before .before .args) in
+    let c₈ = c .before .before .before .before .before .before .before .before in
+    let c₁₀ = c₈ .before .before in
+    let c₁₁ = c₁₀ .before in
+    let c₁₃ = c₁₁ .before .before in
+    let c₁₉ = c₁₃ .before .before .before .before .before .before in
+    let a = c₁₉ .args in
     let p = pool (a .owners .now) (a .medium .now) in
-    let u : usable (a .capacity) p ≡ Done = sym (c .before .before .before .before .before .before .before .before .before .before .before .before .before .usable .ensures) ∙ (c .before .before .before .before .before .before .before .before .before .before .before .enum-told .given .1) in
-    write-done (a .capacity) p (a .lba .0) (a .count) (a .bytes .now) u (sym (c .before .before .before .before .before .before .before .before .before .before .transfer .ensures) ∙ (c .before .before .before .before .before .before .before .before .enum-told2 .given .1)) _ _ _ (c .before .before .before .before .before .write-blocks .ensures) (c .if1 .taken)
+    let u : usable (a .capacity) p ≡ Done = sym (c₁₃ .usable .ensures) ∙ (c₁₁ .enum-told .given .1) in
+    write-done (a .capacity) p (a .lba .0) (a .count) (a .bytes .now) u (sym (c₁₀ .transfer .ensures) ∙ (c₈ .enum-told2 .given .1)) _ _ _ (c .before .before .before .before .before .write-blocks .ensures) (c .if1 .taken)
 
 same-length-7 : tie.Need-same-length-7
 same-length-7 c = search needs
@@ -74,10 +83,15 @@ same-length-8 c = search needs
 
 returns-4 : tie.Need-returns-4
 returns-4 c =
-    let a = (c .before .before .before .before .before .before .before .before .before .before .before .before .before .before .before .before .before .before .before .args) in
+    let c₈ = c .before .before .before .before .before .before .before .before in
+    let c₁₀ = c₈ .before .before in
+    let c₁₁ = c₁₀ .before in
+    let c₁₃ = c₁₁ .before .before in
+    let c₁₉ = c₁₃ .before .before .before .before .before .before in
+    let a = c₁₉ .args in
     let p = pool (a .owners .now) (a .medium .now) in
-    let u : usable (a .capacity) p ≡ Done = sym (c .before .before .before .before .before .before .before .before .before .before .before .before .before .usable .ensures) ∙ (c .before .before .before .before .before .before .before .before .before .before .before .enum-told .given .1) in
-    write-full (a .capacity) p (a .lba .0) (a .count) (a .bytes .now) u (sym (c .before .before .before .before .before .before .before .before .before .before .transfer .ensures) ∙ (c .before .before .before .before .before .before .before .before .enum-told2 .given .1)) _ _ _ (c .before .before .before .before .before .write-blocks .ensures) (c .if1 .left)
+    let u : usable (a .capacity) p ≡ Done = sym (c₁₃ .usable .ensures) ∙ (c₁₁ .enum-told .given .1) in
+    write-full (a .capacity) p (a .lba .0) (a .count) (a .bytes .now) u (sym (c₁₀ .transfer .ensures) ∙ (c₈ .enum-told2 .given .1)) _ _ _ (c .before .before .before .before .before .write-blocks .ensures) (c .if1 .left)
 
 pub write-spec : {M : Type 1} → statement M
 write-spec =

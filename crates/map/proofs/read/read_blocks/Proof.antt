@@ -57,22 +57,25 @@ loop-less c = search needs
 
 loop-again : tie.Need-loop-again Inv-loop μ-loop
 loop-again c =
-    let a = (c .before .before .before .before .before .before .before .before .before .before .args) in
-    let l = (c .before .before .before .before .before .loop) in
-    let n : length (c .before .before .before .before .before .before .index-of .result) ≡ 128 = ap length (c .before .before .before .before .before .before .index-of .ensures) ∙ length-places (a .owners .now) (a .lba .0) 128 in
-    (search needs, (c .before .out .given) .1 ∙ l .inv .1, read-turn (a .medium .now) (length (a .owners .now)) (c .before .before .before .before .before .before .index-of .result) (a .out .now) _ _ (l .k) ((c .before .before .before .before .before .before .before .before .before .before .pre) .3) (omega arith) (omega arith) (l .inv .2) (c .before .before .read-slot .ensures))
+    let c₆ = c .before .before .before .before .before .before in
+    let c₁₀ = c₆ .before .before .before .before in
+    let a = c₁₀ .args in
+    let l = c .before .before .before .before .before .loop in
+    let n : length (c₆ .index-of .result) ≡ 128 = ap length (c₆ .index-of .ensures) ∙ length-places (a .owners .now) (a .lba .0) 128 in
+    (search needs, c .before .out .given .1 ∙ l .inv .1, read-turn (a .medium .now) (length (a .owners .now)) (c₆ .index-of .result) (a .out .now) _ _ (l .k) (c₁₀ .pre .3) (omega arith) (omega arith) (l .inv .2) (c .before .before .read-slot .ensures))
 
 same-length : tie.Need-same-length Inv-loop μ-loop
 same-length c = search needs
 
 returns : tie.Need-returns Inv-loop μ-loop
 returns c =
-    let a = (c .before .before .before .before .before .before .args) in
-    let l = (c .before .loop) in
+    let c₆ = c .before .before .before .before .before .before in
+    let a = c₆ .args in
+    let l = c .before .loop in
     let e : l .k ≡ a .count = omega arith in
-    let f : take (l .k) (c .before .before .index-of .result) ≡ take (a .count) (places (a .owners .now) (a .lba .0) 128) = rw (e, (c .before .before .index-of .ensures)) in
+    let f : take (l .k) (c .before .before .index-of .result) ≡ take (a .count) (places (a .owners .now) (a .lba .0) 128) = rw (e, c .before .before .index-of .ensures) in
     l .inv .2 ∙ ap (λ (is : List ℕ). put (a .out .now) 0 (readPlaces (a .medium .now) (length (a .owners .now)) is)) f
-    ∙ ap (put (a .out .now) 0) (readPlaces-is (a .owners .now) (a .medium .now) (a .lba .0) 128 (a .count) ((c .before .before .before .before .before .before .pre) .0))
+    ∙ ap (put (a .out .now) 0) (readPlaces-is (a .owners .now) (a .medium .now) (a .lba .0) 128 (a .count) (c₆ .pre .0))
 
 pub read-blocks-spec : {M : Type 1} → statement M
 read-blocks-spec =

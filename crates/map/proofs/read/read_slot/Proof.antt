@@ -34,14 +34,17 @@ same-length c = search needs
 
 returns : tie.Need-returns
 returns c =
-    let a = (c .before .before .before .before .before .before .before .before .args) in
+    let c₈ = c .before .before .before .before .before .before .before .before in
+    let a = c₈ .args in
     (c .before .before .copy .ensures) ∙ part-is (512 * a .slot .0) 512 (a .medium .now) ∙ sym (bytes-at _ _ _ (c .before .before .before .before .before .if1 .taken))
 
 same-length-2 : tie.Need-same-length-2
 same-length-2 c = search needs
 
 returns-2 : tie.Need-returns-2
-returns-2 c = (c .before .before .clear .ensures) ∙ ap zeros ((c .before .before .before .before .before .before .before .pre) .2) ∙ sym (bytes-none _ _ _ (c .before .before .before .before .if1 .left))
+returns-2 c =
+    let c₇ = c .before .before .before .before .before .before .before in
+    (c .before .before .clear .ensures) ∙ ap zeros (c₇ .pre .2) ∙ sym (bytes-none _ _ _ (c .before .before .before .before .if1 .left))
 
 pub read-slot-spec : {M : Type 1} → statement M
 read-slot-spec =

@@ -37,10 +37,14 @@ shared-slice-read-at : tie.Need-shared-slice-read-at Inv-loop μ-loop
 shared-slice-read-at c = search needs
 
 mul-at-2 : tie.Need-mul-at-2 Inv-loop μ-loop
-mul-at-2 c = omega (arith, (c .before .before .before .before .before .before .pre) .5 (c .before .before .loop .k) (c .before .loop-test .taken))
+mul-at-2 c =
+    let c₆ = c .before .before .before .before .before .before in
+    omega (arith, c₆ .pre .5 (c .before .before .loop .k) (c .before .loop-test .taken))
 
 add-past : tie.Need-add-past Inv-loop μ-loop
-add-past c = omega (arith, (c .before .before .before .before .before .before .pre) .5 (c .before .before .loop .k) (c .before .loop-test .taken))
+add-past c =
+    let c₆ = c .before .before .before .before .before .before in
+    omega (arith, c₆ .pre .5 (c .before .before .loop .k) (c .before .loop-test .taken))
 
 sub-copy : tie.Need-sub-copy Inv-loop μ-loop
 sub-copy c = search needs
@@ -49,7 +53,9 @@ part-copy-start : tie.Need-part-copy-start Inv-loop μ-loop
 part-copy-start c = search needs
 
 part-copy-end : tie.Need-part-copy-end Inv-loop μ-loop
-part-copy-end c = omega (arith, (c .before .before .before .before .before .before .pre) .5 (c .before .before .loop .k) (c .before .loop-test .taken))
+part-copy-end c =
+    let c₆ = c .before .before .before .before .before .before in
+    omega (arith, c₆ .pre .5 (c .before .before .loop .k) (c .before .loop-test .taken))
 
 sub-copy-2 : tie.Need-sub-copy-2 Inv-loop μ-loop
 sub-copy-2 c = search needs
@@ -61,7 +67,9 @@ part-copy-end-2 : tie.Need-part-copy-end-2 Inv-loop μ-loop
 part-copy-end-2 c = search needs
 
 copy-requires : tie.Need-copy-requires Inv-loop μ-loop
-copy-requires c κs = omega (arith, (c .before .before .before .before .before .before .before .before .pre) .5 (c .before .before .before .before .loop .k) (c .before .before .before .loop-test .taken))
+copy-requires c κs =
+    let c₈ = c .before .before .before .before .before .before .before .before in
+    omega (arith, c₈ .pre .5 (c .before .before .before .before .loop .k) (c .before .before .before .loop-test .taken))
 
 add-k : tie.Need-add-k Inv-loop μ-loop
 add-k c = search needs
@@ -71,26 +79,30 @@ loop-less c = search needs
 
 loop-again : tie.Need-loop-again Inv-loop μ-loop
 loop-again c =
-    let a = (c .before .before .before .before .before .before .before .before .before .before .before .args) in
-    let l = (c .before .before .before .before .before .before .before .loop) in
+    let c₆ = c .before .before .before .before .before .before in
+    let c₇ = c₆ .before in
+    let c₁₁ = c₇ .before .before .before .before in
+    let a = c₁₁ .args in
+    let l = c₇ .loop in
     let i = getD (a .index .now) (l .k) 0 in
-    let b : i < a .slots = (c .before .before .before .before .before .before .before .before .before .before .before .pre) .5 (l .k) (c .before .before .before .before .before .before .loop-test .taken) in
+    let b : i < a .slots = c₁₁ .pre .5 (l .k) (c₆ .loop-test .taken) in
     let is = take (a .count) (a .index .now) in
-    let w : l .k < length is = rw (length-take-le (a .count) (a .index .now) ((c .before .before .before .before .before .before .before .before .before .before .before .pre) .2)) (c .before .before .before .before .before .before .loop-test .taken) in
-    let g : getD is (l .k) 0 ≡ i = getD-take (a .count) (a .index .now) (l .k) 0 (c .before .before .before .before .before .before .loop-test .taken) in
-    let p : part (a .bytes .now) (512 * l .k) 512 ≡ (c .before .before .copy .last) .0 = sym ((c .before .before .copy .ensures) ∙ part-is (512 * l .k) 512 (a .bytes .now)) in
-    let m : putMid (512 * i) (512 * i + 512 - 512 * i) (l .medium) ((c .before .before .copy .last) .0) ≡ put (l .medium) (512 * getD is (l .k) 0) (part (a .bytes .now) (512 * l .k) 512) =
-    rw (g, p) (lent-back (l .medium) ((c .before .before .copy .last) .0) (512 * i) 512 (ap length (sym p) ∙ length-part (a .bytes .now) (512 * l .k) 512 (omega arith)) (omega arith)) in
-    (search needs, (c .before .medium .given) .1 ∙ l .inv .1, ap (λ (z : List ℕ). putPlaces (drop (l .k + 1) is) z (drop (512 * (l .k + 1)) (a .bytes .now))) m ∙ sym (put-turn is (l .medium) (a .bytes .now) (l .k) w) ∙ l .inv .2)
+    let w : l .k < length is = rw (length-take-le (a .count) (a .index .now) (c₁₁ .pre .2)) (c₆ .loop-test .taken) in
+    let g : getD is (l .k) 0 ≡ i = getD-take (a .count) (a .index .now) (l .k) 0 (c₆ .loop-test .taken) in
+    let p : part (a .bytes .now) (512 * l .k) 512 ≡ c .before .before .copy .last .0 = sym ((c .before .before .copy .ensures) ∙ part-is (512 * l .k) 512 (a .bytes .now)) in
+    let m : putMid (512 * i) (512 * i + 512 - 512 * i) (l .medium) (c .before .before .copy .last .0) ≡ put (l .medium) (512 * getD is (l .k) 0) (part (a .bytes .now) (512 * l .k) 512) =
+    rw (g, p) (lent-back (l .medium) (c .before .before .copy .last .0) (512 * i) 512 (ap length (sym p) ∙ length-part (a .bytes .now) (512 * l .k) 512 (omega arith)) (omega arith)) in
+    (search needs, c .before .medium .given .1 ∙ l .inv .1, ap (λ (z : List ℕ). putPlaces (drop (l .k + 1) is) z (drop (512 * (l .k + 1)) (a .bytes .now))) m ∙ sym (put-turn is (l .medium) (a .bytes .now) (l .k) w) ∙ l .inv .2)
 
 same-length : tie.Need-same-length Inv-loop μ-loop
 same-length c = search needs
 
 returns : tie.Need-returns Inv-loop μ-loop
 returns c =
-    let a = (c .before .before .before .before .before .args) in
-    let l = (c .before .loop) in
-    let n = length-take-le (a .count) (a .index .now) ((c .before .before .before .before .before .pre) .2) in
+    let c₅ = c .before .before .before .before .before in
+    let a = c₅ .args in
+    let l = c .before .loop in
+    let n = length-take-le (a .count) (a .index .now) (c₅ .pre .2) in
     sym (put-end (take (a .count) (a .index .now)) (l .medium) (a .bytes .now) (l .k) (omega arith)) ∙ l .inv .2
 
 pub put-blocks-spec : {M : Type 1} → statement M

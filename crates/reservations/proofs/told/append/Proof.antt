@@ -4,7 +4,7 @@ use mathlib.Core.Path.{_≡_, ap, _∙_}
 use Prim.Native.Nat.{ℕ, _+_, _-_, _≤_}
 use native.Mathlib.Numerals.{add-one}
 use native.Mathlib.Omega.{arith}
-use lib.Seq.{paste, paste-zero, paste-suc, take-paste, take-length}
+use lib.Seq.{paste, paste-zero, paste-suc, take-paste, drop-paste, take-length}
 use lib.ListN.{length}
 use borrow.Author.Needs.{needs}
 use Rattle.reservations.proofs.told.append.Statement.{statement}
@@ -55,6 +55,7 @@ returns c =
       fits = omega arith;
       len = ap (λ (k : ℕ). a .page .len + k) e;
       bytes = rw (e, j) (take-paste (a .page .bytes) (a .page .len) (a .more .now) (length (a .more .now)) (omega arith) (omega arith) ∙ rw take-length);
+      spare = rw (e, j) (drop-paste (a .page .bytes) (a .page .len) (a .more .now) (length (a .more .now)) (omega arith) (omega arith));
     }
 
 pub append-spec : {M : Type 1} → statement M

@@ -1,0 +1,195 @@
+-- What a call that nothing refuses at first may rely on.
+-- Assumes nothing.
+use mathlib.Core.Path.{_≡_, refl, sym, ap, _∙_}
+use mathlib.Core.Bool.{Bool, true, false, not, _&&_, false≢true, true≢false}
+use mathlib.Core.List.{List, []}
+use Prim.Native.Nat.{ℕ, _*_, _^_, _≤_}
+use lib.Dec.{T, eqb, leb, ltb, leb→le, eqb→eq, nltb→le}
+use lib.ListN.{length}
+use native.Mathlib.Omega.{arith}
+use Rattle.fields.proofs.Tests.{and-l, and-r, true→T}
+use Rattle.map.specs.declared.Slot.{Slot}
+use Rattle.map.specs.declared.Checked.{Checked}
+use Rattle.map.specs.declared.Checked.the-variants.{Valid, Beyond, Clash}
+use Rattle.map.specs.Valid.{capacityOk, slotsOk, mapOk, poolOk, checked}
+use Rattle.map.specs.Write.{pool}
+use Rattle.map.proofs.Clashes.{checked-valid, valid-checked}
+use Rattle.reservations.specs.Rights.{rightsOk}
+use Rattle.commands.specs.declared.Unit.{Unit}
+use Rattle.commands.specs.Store.{Store, Call, unitOk, usable}
+use Rattle.commands.specs.Contract.{storeOf, callOf}
+use Rattle.commands.specs.Parts.{Bounded, readyFor}
+
+module _ (u : Unit) (owners medium : List ℕ) (t : T (usable (storeOf u owners medium))) where
+  unit-part : T (unitOk u)
+  unfolding usable
+  unit-part = and-l (unitOk u) (poolOk (u .capacity) (record { owners = owners; medium = medium })) t
+
+  pool-part : T (poolOk (u .capacity) (record { owners = owners; medium = medium }))
+  unfolding usable
+  pool-part = and-r (unitOk u) (poolOk (u .capacity) (record { owners = owners; medium = medium })) t
+
+  capacity-part : T (capacityOk (u .capacity))
+  unfolding unitOk
+  capacity-part = and-l (capacityOk (u .capacity)) (rightsOk (u .rights)) unit-part
+
+  slots-part : T (slotsOk (length owners))
+  unfolding poolOk
+  slots-part =
+      and-l (slotsOk (length owners)) (eqb (length medium) (512 * length owners))
+      (and-l (slotsOk (length owners) && eqb (length medium) (512 * length owners)) (mapOk (u .capacity) owners) pool-part)
+
+  whole-part : T (eqb (length medium) (512 * length owners))
+  unfolding poolOk
+  whole-part =
+      and-r (slotsOk (length owners)) (eqb (length medium) (512 * length owners))
+      (and-l (slotsOk (length owners) && eqb (length medium) (512 * length owners)) (mapOk (u .capacity) owners) pool-part)
+
+  pub usable-bounded : Bounded (u .capacity) owners medium
+  unfolding capacityOk slotsOk
+  usable-bounded = record {
+    some = leb→le 1 (u .capacity) (and-l (leb 1 (u .capacity)) (leb (u .capacity) (2 ^ 40)) capacity-part);
+    few = leb→le (u .capacity) (2 ^ 40) (and-r (leb 1 (u .capacity)) (leb (u .capacity) (2 ^ 40)) capacity-part);
+    slots = leb→le (length owners) 128 (and-r (leb 1 (length owners)) (leb (length owners) 128) slots-part);
+    whole = eqb→eq (length medium) (512 * length owners) whole-part;
+  }
+
+last-part : (a b d u : Bool) → (not a && (not b && (not d && u))) ≡ true → T u
+last-part true b d u e = absurd (false≢true e)
+last-part false true d u e = absurd (false≢true e)
+last-part false false true u e = absurd (false≢true e)
+last-part false false false u e = true→T u e
+
+third-part : (a b d u : Bool) → (not a && (not b && (not d && u))) ≡ true → T (not d)
+third-part true b d u e = absurd (false≢true e)
+third-part false true d u e = absurd (false≢true e)
+third-part false false true u e = absurd (false≢true e)
+third-part false false false u e = tt
+
+module _ (u : Unit) (owners medium : List ℕ) (n : ℕ) (cdb sense : List ℕ) (e : readyFor (storeOf u owners medium) (callOf n cdb [] [] sense) ≡ true) where
+  pub ready-bounded : Bounded (u .capacity) owners medium
+  unfolding readyFor
+  ready-bounded =
+      usable-bounded u owners medium
+      (last-part (ltb 15 n) (eqb (length cdb) 0) (ltb (length sense) 18) (usable (storeOf u owners medium)) e)
+
+  pub ready-sense : 18 ≤ length sense
+  unfolding readyFor
+  ready-sense =
+      nltb→le (length sense) 18
+      (third-part (ltb 15 n) (eqb (length cdb) 0) (ltb (length sense) 18) (usable (storeOf u owners medium)) e)
+
+-- ---- the tests one after another
+
+and-false : (a b : Bool) → a ≡ false → false ≡ (a && b)
+and-false true b e = absurd (true≢false e)
+and-false false b e = refl
+
+and-second : (a b : Bool) → b ≡ false → false ≡ (a && b)
+and-second true b e = sym e
+and-second false b e = refl
+
+and-rest : (a b : Bool) → a ≡ true → b ≡ (a && b)
+and-rest true b e = refl
+and-rest false b e = absurd (false≢true e)
+
+T→true : (b : Bool) → T b → true ≡ b
+T→true true t = refl
+T→true false t = absurd t
+
+T→false : (b : Bool) → T (not b) → false ≡ b
+T→false true t = absurd t
+T→false false t = refl
+
+module _ (capacity : ℕ) (owners : List ℕ) where
+  pub map-valid : checked capacity owners ≡ Valid → true ≡ mapOk capacity owners
+  map-valid e = T→true (mapOk capacity owners) (checked-valid capacity owners e)
+
+  unlike : (b : Bool) (o : Checked) → (T b → checked capacity owners ≡ Valid) → checked capacity owners ≡ o → (o ≡ Valid → ⊥) → false ≡ b
+  unlike true o valid e never = absurd (never (sym e ∙ valid tt))
+  unlike false o valid e never = refl
+
+  pub map-beyond : (i : Slot) → checked capacity owners ≡ Beyond i → false ≡ mapOk capacity owners
+  map-beyond i e =
+      unlike (mapOk capacity owners) (Beyond i) (valid-checked capacity owners) e
+      (λ (z : Beyond i ≡ Valid). let x : _≡_ {A = ℕ} 0 1 = cc in omega arith)
+
+  pub map-clash : (i j : Slot) → checked capacity owners ≡ Clash i j → false ≡ mapOk capacity owners
+  map-clash i j e =
+      unlike (mapOk capacity owners) (Clash i j) (valid-checked capacity owners) e
+      (λ (z : Clash i j ≡ Valid). let x : _≡_ {A = ℕ} 0 1 = cc in omega arith)
+
+module _ (u : Unit) where
+  pub unit-bad : capacityOk (u .capacity) ≡ false → false ≡ unitOk u
+  unfolding unitOk
+  unit-bad e = and-false (capacityOk (u .capacity)) (rightsOk (u .rights)) e
+
+  pub unit-rest : capacityOk (u .capacity) ≡ true → rightsOk (u .rights) ≡ unitOk u
+  unfolding unitOk
+  unit-rest e = and-rest (capacityOk (u .capacity)) (rightsOk (u .rights)) e
+
+pub slots-few : (n : ℕ) → slotsOk n ≡ true → n ≤ 128
+unfolding slotsOk
+slots-few n e = leb→le n 128 (and-r (leb 1 n) (leb n 128) (true→T (leb 1 n && leb n 128) e))
+
+module _ (capacity : ℕ) (owners medium : List ℕ) where
+  whole : Bool
+  whole = eqb (length medium) (512 * length owners)
+
+  pub pool-slots : slotsOk (length owners) ≡ false → false ≡ poolOk capacity (pool owners medium)
+  unfolding poolOk whole
+  pool-slots e =
+      and-false (slotsOk (length owners) && whole) (mapOk capacity owners) (sym (and-false (slotsOk (length owners)) whole e))
+
+  pub pool-torn : eqb (length medium) (512 * length owners) ≡ false → false ≡ poolOk capacity (pool owners medium)
+  unfolding poolOk whole
+  pool-torn e =
+      and-false (slotsOk (length owners) && whole) (mapOk capacity owners) (sym (and-second (slotsOk (length owners)) whole e))
+
+  pub pool-rest : slotsOk (length owners) ≡ true → eqb (length medium) (512 * length owners) ≡ true
+      → mapOk capacity owners ≡ poolOk capacity (pool owners medium)
+  unfolding poolOk whole
+  pool-rest e h =
+      and-rest (slotsOk (length owners) && whole) (mapOk capacity owners) (sym (and-rest (slotsOk (length owners)) whole e) ∙ h)
+
+-- ---- all of them, over plain tests
+
+module _ (a b d u p : Bool) where
+  stop-1 : a ≡ true → false ≡ (not a && (not b && (not d && (u && p))))
+  stop-1 e = rw e
+
+  stop-2 : b ≡ true → false ≡ (not a && (not b && (not d && (u && p))))
+  stop-2 e = rw e (and-second (not a) false refl)
+
+  stop-3 : d ≡ true → false ≡ (not a && (not b && (not d && (u && p))))
+  stop-3 e = rw e (and-second (not a) (not b && false) (sym (and-second (not b) false refl)))
+
+  stop-4 : u ≡ false → false ≡ (not a && (not b && (not d && (u && p))))
+  stop-4 e =
+      rw e
+      (and-second (not a) (not b && (not d && false)) (sym (and-second (not b) (not d && false) (sym (and-second (not d) false refl)))))
+
+  pass-all : a ≡ false → b ≡ false → d ≡ false → u ≡ true → p ≡ (not a && (not b && (not d && (u && p))))
+  pass-all e f g h = rw (e, f, g, h)
+
+module _ (s : Store) (c : Call) where
+  pub ready-nexus : ltb 15 (c .nexus) ≡ true → false ≡ readyFor s c
+  unfolding readyFor usable
+  ready-nexus e = stop-1 (ltb 15 (c .nexus)) (eqb (length (c .cdb)) 0) (ltb (length (c .sense)) 18) (unitOk (s .unit)) (poolOk (s .unit .capacity) (s .pool)) e
+
+  pub ready-empty : eqb (length (c .cdb)) 0 ≡ true → false ≡ readyFor s c
+  unfolding readyFor usable
+  ready-empty e = stop-2 (ltb 15 (c .nexus)) (eqb (length (c .cdb)) 0) (ltb (length (c .sense)) 18) (unitOk (s .unit)) (poolOk (s .unit .capacity) (s .pool)) e
+
+  pub ready-short : ltb (length (c .sense)) 18 ≡ true → false ≡ readyFor s c
+  unfolding readyFor usable
+  ready-short e = stop-3 (ltb 15 (c .nexus)) (eqb (length (c .cdb)) 0) (ltb (length (c .sense)) 18) (unitOk (s .unit)) (poolOk (s .unit .capacity) (s .pool)) e
+
+  pub ready-unit : unitOk (s .unit) ≡ false → false ≡ readyFor s c
+  unfolding readyFor usable
+  ready-unit e = stop-4 (ltb 15 (c .nexus)) (eqb (length (c .cdb)) 0) (ltb (length (c .sense)) 18) (unitOk (s .unit)) (poolOk (s .unit .capacity) (s .pool)) e
+
+  pub ready-rest : ltb 15 (c .nexus) ≡ false → eqb (length (c .cdb)) 0 ≡ false → ltb (length (c .sense)) 18 ≡ false → unitOk (s .unit) ≡ true
+      → poolOk (s .unit .capacity) (s .pool) ≡ readyFor s c
+  unfolding readyFor usable
+  ready-rest e f g h = pass-all _ _ _ _ _ e f g h

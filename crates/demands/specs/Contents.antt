@@ -1,0 +1,155 @@
+-- Words for what a store holds and for the calls that move it: used by the laws of READ, WRITE and UNMAP.
+-- Assumes nothing.
+use mathlib.Core.Path.{_≡_}
+use mathlib.Core.Bool.{Bool, true, false, _&&_, _||_}
+use mathlib.Core.List.{List, [], _∷_, _++_}
+use Prim.Native.Nat.{ℕ, zero, suc, _+_, _-_, _≤_, _<_}
+use lib.Dec.{T, leb, ltb}
+use lib.ListN.{length}
+use Rattle.fields.specs.Bytes.{zeros}
+use Rattle.fields.specs.Field.{byte, bit, bytes}
+use Rattle.answers.specs.declared.Answer.{Answer}
+use Rattle.answers.specs.declared.Answer.the-variants.{Good}
+use Rattle.answers.specs.Order.{first, next}
+use Rattle.map.specs.Pool.{Pool, free, unmapped, unmapBlocks}
+use Rattle.map.proofs.Alike.{Alike}
+use Rattle.descriptors.specs.declared.Descriptor.{Descriptor}
+use Rattle.descriptors.specs.Descriptors.{descriptorAt, considered}
+use Rattle.reservations.specs.Conflict.{conflict}
+use Rattle.forms.specs.declared.Move.{Move}
+use Rattle.forms.specs.declared.Move.the-variants.{Read, Write, Unmap}
+use Rattle.forms.specs.declared.Kind.the-variants.{Moves}
+use Rattle.forms.specs.Forms.{formOf, addressOf, sizeOf}
+use Rattle.forms.specs.Tests.{formRows}
+use Rattle.commands.specs.Store.{Store, Call, Seen, usable}
+use Rattle.commands.specs.Move.{access}
+use Rattle.commands.specs.Step.{callRows, step}
+use Rattle.demands.specs.History.{Build, after}
+
+-- ---- a call on the blocks
+
+-- it is a READ, a WRITE or an UNMAP, in whichever of its forms
+abbrev pub Asks : Move → Call → Type 0
+Asks m c = formOf (c .cdb) .kind ≡ Moves m
+
+-- its first block, and how many there are, as its own row of fields has them
+abbrev pub addressIn : Call → ℕ
+addressIn c = addressOf (formOf (c .cdb)) (c .cdb)
+
+abbrev pub countIn : Call → ℕ
+countIn c = sizeOf (formOf (c .cdb)) (c .cdb)
+
+-- the answer is GOOD
+abbrev pub IsGood : Store → Call → Type 0
+IsGood s c = step s c .seen .answer ≡ Good
+
+-- what the tests of a call by itself answer: who calls, the buffers, and the fields of the CDB
+unfoldable pub byItself : Call → Answer
+byItself c = next (first (callRows c)) (first (formRows (formOf (c .cdb)) (formOf (c .cdb) .kind) (c .cdb)))
+
+-- it comes as far as the command's own tests: the store is usable, the call is right by itself, and no reservation is in its way
+pub record Reaches (m : Move) (s : Store) (c : Call) : Type 0 where
+  pub asks : Asks m c
+  pub store : T (usable s)
+  pub call : byItself c ≡ Good
+  pub free : conflict (s .unit .rights) (c .nexus) (access m) ≡ false
+
+-- there are free slots for all that a WRITE maps
+abbrev pub Room : Store → Call → Type 0
+Room s c = unmapped (s .pool .owners) (addressIn c) (countIn c) ≤ free (s .pool .owners)
+
+-- ---- ranges of blocks
+
+-- b is none of the n blocks from a on
+abbrev pub Outside : ℕ → ℕ → ℕ → Type 0
+Outside a n b = a ≤ b → a + n ≤ b
+
+-- two calls name the same blocks
+pub record SameRange (c d : Call) : Type 0 where
+  pub address : addressIn c ≡ addressIn d
+  pub count : countIn c ≡ countIn d
+
+-- two calls have no block in common
+abbrev pub Apart : Call → Call → Type 0
+Apart c d = (i : ℕ) → i < countIn d → Outside (addressIn c) (countIn c) (addressIn d + i)
+
+-- ---- the same transfer in different forms
+
+-- READ and WRITE, which have two forms each
+unfoldable pub isTransfer : Move → Bool
+isTransfer Read = true
+isTransfer Write = true
+isTransfer Unmap = false
+
+-- the control byte: the CDB's last by its code's length
+abbrev pub control : Call → ℕ
+control c = byte (formOf (c .cdb) .long - 1) (c .cdb)
+
+-- two calls with CDBs of whichever form that say the same: each as long as its code has it, the same blocks, byte 1's upper bits and NACA alike,
+-- from the same nexus and with the same buffers
+pub record SaysSame (c d : Call) : Type 0 where
+  pub range : SameRange c d
+  pub first-long : length (c .cdb) ≡ formOf (c .cdb) .long
+  pub second-long : length (d .cdb) ≡ formOf (d .cdb) .long
+  pub flags : leb 32 (byte 1 (c .cdb)) ≡ leb 32 (byte 1 (d .cdb))
+  pub naca : bit 2 (control c) ≡ bit 2 (control d)
+  pub nexus : c .nexus ≡ d .nexus
+  pub dataOut : c .dataOut ≡ d .dataOut
+  pub dataIn : c .dataIn ≡ d .dataIn
+  pub sense : c .sense ≡ d .sense
+
+-- a CDB of a READ or WRITE, over the widths of its fields: address and count, with `gap` bytes between and `rest` behind
+unfoldable pub transferCdb : ℕ → ℕ → ℕ → ℕ → ℕ → ℕ → ℕ → List ℕ
+transferCdb code wide gap narrow rest address count =
+    code ∷ 0 ∷ (bytes wide address ++ (zeros gap ++ (bytes narrow count ++ zeros rest)))
+
+-- "address bytes 2-5, count 7-8"
+unfoldable pub cdb10 : ℕ → ℕ → ℕ → List ℕ
+cdb10 code address count = transferCdb code 4 1 2 1 address count
+
+-- "2-9 and 10-13"
+unfoldable pub cdb16 : ℕ → ℕ → ℕ → List ℕ
+cdb16 code address count = transferCdb code 8 0 4 2 address count
+
+-- a call with a CDB, who sends it, and the lent buffers
+abbrev pub callWith : List ℕ → ℕ → List ℕ → List ℕ → List ℕ → Call
+callWith cdb nexus dataOut dataIn sense = record { nexus = nexus; cdb = cdb; dataOut = dataOut; dataIn = dataIn; sense = sense }
+
+-- ---- the descriptors of an UNMAP
+
+-- the n descriptors of a list from byte `at` on
+unfoldable pub descriptorsFrom : List ℕ → ℕ → ℕ → List Descriptor
+descriptorsFrom list at zero = []
+descriptorsFrom list at (suc n) = descriptorAt list at ∷ descriptorsFrom list (at + 16) n
+
+-- "descriptors from byte 8"; those that are considered
+unfoldable pub descriptorsOf : Call → List Descriptor
+descriptorsOf c = descriptorsFrom (c .dataOut) 8 (considered (countIn c) (c .dataOut))
+
+-- the pool after they act, one after another
+unfoldable pub unmapEach : Pool → List Descriptor → Pool
+unmapEach p [] = p
+unmapEach p (d ∷ ds) = unmapEach (unmapBlocks p (d .address .0) (d .count)) ds
+
+-- does a descriptor cover the block b
+unfoldable pub covers : Descriptor → ℕ → Bool
+covers d b = leb (d .address .0) b && ltb b (d .address .0 + d .count)
+
+-- does one of them
+unfoldable pub names : List Descriptor → ℕ → Bool
+names [] b = false
+names (d ∷ ds) b = covers d b || names ds b
+
+-- ---- stores that differ in their slots alone
+
+-- the unit's record (capacity, rights and generation) is the same, and the pools are alike: free slots, mapped blocks, and what every block reads
+pub record Same (s t : Store) : Type 0 where
+  pub unit : s .unit ≡ t .unit
+  pub pool : Alike (s .pool) (t .pool)
+
+-- ---- histories
+
+-- all that the callers see, call by call
+unfoldable pub seenAll : Build → Store → List Call → List Seen
+seenAll f s [] = []
+seenAll f s (c ∷ cs) = f s c .seen ∷ seenAll f (after f s c) cs

@@ -1,6 +1,6 @@
 -- Making a fresh store by the ways through its rows.
 -- Assumes nothing.
-use mathlib.Core.Path.{_≡_, refl, sym, ap, _∙_}
+use mathlib.Core.Path.{_≡_, ap, _∙_}
 use mathlib.Core.Bool.{true, false, not}
 use mathlib.Core.List.{List}
 use Prim.Native.Nat.{ℕ}
@@ -12,7 +12,7 @@ use Rattle.answers.proofs.OrderLaws.{row-pass, row-stop, row-end}
 use Rattle.map.specs.Valid.{capacityOk, slotsOk}
 use Rattle.reservations.specs.declared.Rights.{Rights}
 use Rattle.reservations.specs.Rights.{noRights}
-use Rattle.commands.specs.Fresh.{FreshResult, freshUnit, freshAnswer, fresh}
+use Rattle.commands.specs.Fresh.{freshUnit, freshAnswer, fresh}
 use Rattle.commands.specs.Contract.{made}
 
 module _ (capacity : ℕ) (owners : List ℕ) where

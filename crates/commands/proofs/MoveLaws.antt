@@ -10,9 +10,9 @@ use lib.ListN.{length}
 use borrow.Author.Tests.{ltb-true, ltb-false, lt-ltb, le-ltb, leb-true, leb-false}
 use Rattle.fields.specs.Bytes.{put}
 use Rattle.answers.specs.declared.Answer.{Answer}
-use Rattle.answers.specs.declared.Answer.the-variants.{Good, Refused, Conflict, Unusable, Short}
+use Rattle.answers.specs.declared.Answer.the-variants.{Good, Conflict, Short}
 use Rattle.answers.specs.Answers.{outOfRange, listLength, listField, noRoom}
-use Rattle.answers.specs.Order.{Row, _if_, first, ifGood}
+use Rattle.answers.specs.Order.{Row, _if_, first}
 use Rattle.answers.proofs.OrderLaws.{refuses, row-pass, row-stop, row-end, row-fails, rows-after}
 use Rattle.map.specs.Pool.{Pool, free, unmapped, readBlocks, writeBlocks}
 use Rattle.map.specs.Write.{pool, roomFor, Written, written, tryWrite}
@@ -26,11 +26,11 @@ use Rattle.forms.specs.declared.Form.{Form}
 use Rattle.forms.specs.Forms.{addressOf, sizeOf}
 use Rattle.forms.specs.Tests.{formRows, fieldRows, transferRows}
 use Rattle.commands.specs.declared.Unit.{Unit}
-use Rattle.commands.specs.Store.{Store, Call}
+use Rattle.commands.specs.Store.{Call}
 use Rattle.commands.specs.Move.{access, pastEnd, rangeRows, moveRows, moved, fetched}
 use Rattle.commands.specs.Step.{ownRows, dataBy, storeBy}
-use Rattle.commands.specs.Contract.{storeOf, callOf}
-use Rattle.commands.specs.Parts.{asking, giving, Replied, replyOf, Left, leaving, settles, Served, serves, servedBy}
+use Rattle.commands.specs.Contract.{storeOf}
+use Rattle.commands.specs.Parts.{asking, giving, Replied, replyOf, leaving, settles, serves, servedBy}
 use Rattle.commands.proofs.ServeLaws.{plain, serving, reply-refused, reply-done, settles-refused, settles-done, serves-refused, serves-reply, serves-settled}
 
 -- ---- the range

@@ -1,12 +1,12 @@
 -- What a call that nothing refuses at first may rely on.
 -- Assumes nothing.
-use mathlib.Core.Path.{_≡_, refl, sym, ap, _∙_}
+use mathlib.Core.Path.{_≡_, refl, sym, _∙_}
 use mathlib.Core.Bool.{Bool, true, false, not, _&&_, false≢true, true≢false}
 use mathlib.Core.List.{List, []}
 use Prim.Native.Nat.{ℕ, _*_, _^_, _≤_}
+use native.Mathlib.Omega.{arith}
 use lib.Dec.{T, eqb, leb, ltb, leb→le, eqb→eq, nltb→le}
 use lib.ListN.{length}
-use native.Mathlib.Omega.{arith}
 use Rattle.fields.proofs.Tests.{and-l, and-r, true→T}
 use Rattle.map.specs.declared.Slot.{Slot}
 use Rattle.map.specs.declared.Checked.{Checked}

@@ -2,7 +2,7 @@
 -- Assumes nothing.
 use mathlib.Core.Path.{_≡_, refl, sym, ap, _∙_}
 use mathlib.Core.Bool.{Bool, true, false, not, _&&_, true≢false, false≢true}
-use mathlib.Core.Logic.{_⊎_, inl, inr}
+use mathlib.Core.Logic.{inl, inr}
 use mathlib.Core.List.{List, [], _∷_, _++_}
 use Prim.Native.Nat.{ℕ}
 use native.Mathlib.Omega.{arith}
@@ -29,7 +29,7 @@ use Rattle.commands.specs.Tell.{tellRows}
 use Rattle.commands.specs.Move.{moveRows, rangeRows, moved, fetched}
 use Rattle.commands.specs.Alter.{alterRows}
 use Rattle.commands.specs.Step.{callRows, storeRows, ownRows, answerBy, dataBy, storeBy, stepBy, step}
-use Rattle.commands.specs.Contract.{storeOf, callOf, left}
+use Rattle.commands.specs.Contract.{callOf, left}
 use Rattle.commands.specs.Parts.{readyFor, replyOf, Served, served, serves, servedBy, servedWith, bare}
 use Rattle.commands.proofs.ServeLaws.{plain, serving, serves-refused}
 

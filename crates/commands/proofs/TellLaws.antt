@@ -1,11 +1,11 @@
 -- Commands that tell, and PERSISTENT RESERVE OUT, by the ways through their rows.
 -- Assumes nothing.
 use mathlib.Core.Path.{_≡_, refl, sym, ap, _∙_}
-use mathlib.Core.Bool.{Bool, true, false, not, cond}
+use mathlib.Core.Bool.{Bool, true, false, cond}
 use mathlib.Core.List.{List, [], _∷_}
 use Prim.Native.Nat.{ℕ, _-_, _≤_, _<_, min}
 use native.Mathlib.Omega.{arith}
-use lib.Dec.{T, eqb, leb, ltb}
+use lib.Dec.{eqb, leb, ltb}
 use lib.ListN.{length, take, getD, length-take}
 use lib.Seq.{take-all}
 use borrow.Author.Tests.{lt-ltb, le-ltb, eq-eqb, ne-eqb, leb-true, leb-false}
@@ -15,12 +15,11 @@ use Rattle.fields.proofs.BytesLaws.{put-none}
 use Rattle.answers.specs.declared.Answer.{Answer}
 use Rattle.answers.specs.declared.Answer.the-variants.{Good, Short}
 use Rattle.answers.specs.Answers.{listLength}
-use Rattle.answers.specs.Order.{Row, _if_, first, ifGood}
+use Rattle.answers.specs.Order.{_if_, first, ifGood}
 use Rattle.answers.proofs.OrderLaws.{refuses, row-pass, row-stop, row-end}
 use Rattle.reservations.specs.declared.Rights.{Rights}
 use Rattle.reservations.specs.declared.Action.{Action}
-use Rattle.reservations.specs.declared.Decision.{Decision}
-use Rattle.reservations.specs.Actions.{orderRows, decided, acted}
+use Rattle.reservations.specs.Actions.{orderRows, decided}
 use Rattle.reservations.specs.Told.{keysData, reservationData}
 use Rattle.forms.specs.declared.Tell.{Tell}
 use Rattle.forms.specs.declared.Tell.the-variants.{Ready, Inquiry, Capacity10, Capacity16, Keys, Reservation}
@@ -35,7 +34,7 @@ use Rattle.commands.specs.Tell.{inquiryData, capacity10Data, capacity16D
 use Rattle.commands.specs.Alter.{orderOf, alterRows}
 use Rattle.commands.specs.Step.{ownRows, dataBy, storeBy}
 use Rattle.commands.specs.Contract.{storeOf, callOf}
-use Rattle.commands.specs.Parts.{asking, Replied, replyOf, cut, allowed, altered, altersTo, bare, Served, served, serves, servedBy}
+use Rattle.commands.specs.Parts.{asking, Replied, replyOf, cut, allowed, altered, altersTo, bare, served, servedBy}
 use Rattle.commands.proofs.ServeLaws.{plain, serving, reply-refused, reply-done, serves-reply, serves-part}
 
 -- ---- the parameter data of READ CAPACITY

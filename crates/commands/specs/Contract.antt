@@ -1,9 +1,7 @@
 -- What the contracts speak of: the store and the call that the lent buffers make, and what is left of them.
 -- Assumes nothing.
-use mathlib.Core.Path.{_≡_}
-use mathlib.Core.List.{List, []}
-use Prim.Native.Nat.{ℕ, _*_, _^_, _≤_}
-use lib.ListN.{length}
+use mathlib.Core.List.{List}
+use Prim.Native.Nat.{ℕ}
 use Rattle.map.specs.Write.{pool}
 use Rattle.commands.specs.declared.Unit.{Unit}
 use Rattle.commands.specs.declared.Outcome.{Outcome}

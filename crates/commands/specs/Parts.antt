@@ -86,6 +86,10 @@ altered f a r c = record {
   rights = ifGood (first (alterRows f a r c)) (acted a r (c .nexus) (orderOf (c .cdb) (c .dataOut))) r;
 }
 
+-- the outcome of a reply
+abbrev pub replying : Reply → Unit → Outcome
+replying reply unit = record { answer = reply .answer; returned = reply .returned; unit = unit }
+
 -- the outcome of an answer that returns no bytes
 abbrev pub bare : Answer → Unit → Outcome
 bare answer unit = record { answer = answer; returned = 0; unit = unit }

@@ -43,7 +43,14 @@ fn order_of(cdb: &[u8], list: &[u8]) -> Order
     }
 }
 
-pub fn alter(form: Form, action: Action, rights: Rights, nexus: u8, cdb: &[u8], data_out: &[u8]) -> Decision
+pub fn alter(
+    form: Form,
+    action: Action,
+    rights: Rights,
+    nexus: u8,
+    cdb: &[u8],
+    data_out: &[u8],
+) -> Decision
     requires { ⌜ Sound form ⌝ }
     ensures { λ r. ⌜ r ≡ altered form action rights (callOf nexus (now (cdb .entry)) (now («data_out» .entry)) [] []) ⌝ }
 {

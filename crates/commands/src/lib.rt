@@ -7,6 +7,7 @@ mod serve;
 mod tell;
 mod transfer;
 mod unmap;
+
 ghost use mathlib.Core.Path.{_≡_};
 ghost use Rattle.commands.specs.Step.{step};
 ghost use Rattle.commands.specs.Fresh.{fresh};
@@ -62,14 +63,20 @@ pub fn fresh(capacity: u64, owners: &mut [u64]) -> Made
 {
     let rights = reservations::standing::none();
     if !ready::capacity_ok(capacity) {
-        let unit = Unit { capacity: 0, rights };
+        let unit = Unit {
+            capacity: 0,
+            rights,
+        };
         return Made {
             answer: Answer::Unusable,
             unit,
         };
     }
     if !ready::slots_ok(owners.len()) {
-        let unit = Unit { capacity: 0, rights };
+        let unit = Unit {
+            capacity: 0,
+            rights,
+        };
         return Made {
             answer: Answer::Unusable,
             unit,

@@ -7,9 +7,42 @@ pub fn inquiry() -> [u8; 36]
     ensures { λ r. ⌜ r ≡ inquiryData ⌝ }
 {
     [
-        0x00, 0x00, 0x06, 0x02, 0x1F, 0x00, 0x00, 0x00, 0x52, 0x49, 0x44, 0x47, 0x45, 0x20, 0x20,
-        0x20, 0x4C, 0x4F, 0x41, 0x44, 0x20, 0x4C, 0x4F, 0x47, 0x20, 0x53, 0x54, 0x4F, 0x52, 0x45,
-        0x20, 0x20, 0x30, 0x31, 0x30, 0x30,
+        0x00,
+        0x00,
+        0x06,
+        0x02,
+        0x1F,
+        0x00,
+        0x00,
+        0x00,
+        0x52,
+        0x49,
+        0x44,
+        0x47,
+        0x45,
+        0x20,
+        0x20,
+        0x20,
+        0x4C,
+        0x4F,
+        0x41,
+        0x44,
+        0x20,
+        0x4C,
+        0x4F,
+        0x47,
+        0x20,
+        0x53,
+        0x54,
+        0x4F,
+        0x52,
+        0x45,
+        0x20,
+        0x20,
+        0x30,
+        0x31,
+        0x30,
+        0x30,
     ]
 }
 
@@ -17,7 +50,11 @@ pub fn inquiry() -> [u8; 36]
 fn shown(last: u64) -> u64
     ensures { λ r. ⌜ r ≡ min last 0xFFFF_FFFF ⌝ }
 {
-    if last <= 0xFFFF_FFFF { last } else { 0xFFFF_FFFF }
+    if last <= 0xFFFF_FFFF {
+        last
+    } else {
+        0xFFFF_FFFF
+    }
 }
 
 pub fn capacity10(capacity: u64) -> [u8; 8]
@@ -35,7 +72,37 @@ pub fn capacity16(capacity: u64) -> [u8; 32]
 {
     let a = fields::numbers::bytes8(capacity - 1);
     [
-        a[0], a[1], a[2], a[3], a[4], a[5], a[6], a[7], 0, 0, 2, 0, 0, 0, 0xC0, 0, 0, 0, 0, 0, 0,
-        0, 0, 0, 0, 0, 0, 0, 0, 0, 0, 0,
+        a[0],
+        a[1],
+        a[2],
+        a[3],
+        a[4],
+        a[5],
+        a[6],
+        a[7],
+        0,
+        0,
+        2,
+        0,
+        0,
+        0,
+        0xC0,
+        0,
+        0,
+        0,
+        0,
+        0,
+        0,
+        0,
+        0,
+        0,
+        0,
+        0,
+        0,
+        0,
+        0,
+        0,
+        0,
+        0,
     ]
 }

@@ -9,10 +9,11 @@ ghost use Rattle.forms.specs.Tests.{formRows};
 ghost use Rattle.forms.specs.Sound.{Sound};
 ghost use Rattle.commands.specs.Move.{access};
 ghost use Rattle.commands.specs.Contract.{storeOf, callOf};
-ghost use Rattle.commands.specs.Parts.{Bounded, served, servedBy, servedWith, altered, altersTo, bare};
+ghost use Rattle.commands.specs.Parts.{Bounded, served, servedBy, servedWith, altered, altersTo, bare, replying};
 use crate::Outcome;
 use crate::Unit;
 use crate::alter;
+use crate::reply::Reply;
 use crate::tell;
 use crate::transfer;
 use crate::unmap;
@@ -30,6 +31,18 @@ pub fn answered(answer: Answer, unit: Unit) -> Outcome
     Outcome {
         answer,
         returned: 0,
+        unit,
+    }
+}
+
+// A reply leaves the unit.
+fn replied(reply: Reply, unit: Unit) -> Outcome
+    ensures { λ r. ⌜ r ≡ replying reply unit ⌝ }
+{
+    let answer = reply.answer;
+    Outcome {
+        answer,
+        returned: reply.returned,
         unit,
     }
 }
@@ -81,23 +94,15 @@ fn moves(
     }
     let capacity = unit.capacity;
     match what {
-        Move::Read => {
-            let reply = transfer::read(form, capacity, owners, medium, cdb, data_in);
-            let answer = reply.answer;
-            Outcome {
-                answer,
-                returned: reply.returned,
-                unit,
-            }
-        }
-        Move::Write => {
-            let answer = transfer::write(form, capacity, owners, medium, cdb, data_out);
-            answered(answer, unit)
-        }
-        Move::Unmap => {
-            let answer = unmap::unmap(form, capacity, owners, cdb, data_out);
-            answered(answer, unit)
-        }
+        Move::Read => replied(
+            transfer::read(form, capacity, owners, medium, cdb, data_in),
+            unit,
+        ),
+        Move::Write => answered(
+            transfer::write(form, capacity, owners, medium, cdb, data_out),
+            unit,
+        ),
+        Move::Unmap => answered(unmap::unmap(form, capacity, owners, cdb, data_out), unit),
     }
 }
 
@@ -117,17 +122,20 @@ fn act(
 {
     let kind = form.kind;
     match kind {
-        Kind::Tells(what) => {
-            let reply = tell::tell(form, what, unit, cdb, data_in);
-            let answer = reply.answer;
-            Outcome {
-                answer,
-                returned: reply.returned,
-                unit,
-            }
-        }
-        Kind::Moves(what) => moves(form, what, unit, owners, medium, nexus, cdb, data_out, data_in),
+        Kind::Tells(what) => replied(tell::tell(form, what, unit, cdb, data_in), unit),
+        Kind::Moves(what) => moves(
+            form,
+            what,
+            unit,
+            owners,
+            medium,
+            nexus,
+            cdb,
+            data_out,
+            data_in,
+        ),
         Kind::Alters(action) => alters(form, action, unit, nexus, cdb, data_out),
+        // Its form has refused every such call, and no row of its own is left to test.
         Kind::Unknown => answered(Answer::Good, unit),
         Kind::Unlisted => answered(Answer::Good, unit),
     }

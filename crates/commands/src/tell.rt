@@ -26,7 +26,11 @@ fn cut_to(form: Form, cdb: &[u8], available: usize) -> usize
         return available;
     }
     let allocation = forms::size(form, cdb) as usize;
-    if available <= allocation { available } else { allocation }
+    if available <= allocation {
+        available
+    } else {
+        allocation
+    }
 }
 
 // The bytes there, cut to the allocation length, go to data-in where it has room for them.

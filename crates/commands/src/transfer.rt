@@ -24,7 +24,14 @@ fn past_end(capacity: u64, address: u64, count: u64) -> bool
     capacity - count < address
 }
 
-pub fn read(form: Form, capacity: u64, owners: &[u64], medium: &[u8], cdb: &[u8], data_in: &mut [u8]) -> Reply
+pub fn read(
+    form: Form,
+    capacity: u64,
+    owners: &[u64],
+    medium: &[u8],
+    cdb: &[u8],
+    data_in: &mut [u8],
+) -> Reply
     requires { ⌜ Sound form × Bounded capacity (now owners) (now medium) × (sizeOf form (now cdb) ≤ 128) ⌝ }
     ensures { λ r. ⌜ replied r (now («data_in» .exit)) ≡ replyOf (first (rangeRows form Read capacity (pool (now (owners .entry)) (now (medium .entry))) (asking (now (cdb .entry)) (now («data_in» .entry))))) (fetched form Read (pool (now (owners .entry)) (now (medium .entry))) (asking (now (cdb .entry)) (now («data_in» .entry)))) (now («data_in» .entry)) ⌝ }
 {
@@ -52,7 +59,14 @@ pub fn read(form: Form, capacity: u64, owners: &[u64], medium: &[u8], cdb: &[u8]
     }
 }
 
-pub fn write(form: Form, capacity: u64, owners: &mut [u64], medium: &mut [u8], cdb: &[u8], data_out: &[u8]) -> Answer
+pub fn write(
+    form: Form,
+    capacity: u64,
+    owners: &mut [u64],
+    medium: &mut [u8],
+    cdb: &[u8],
+    data_out: &[u8],
+) -> Answer
     requires { ⌜ Sound form × Bounded capacity (now owners) (now medium) × (sizeOf form (now cdb) ≤ 128) ⌝ }
     ensures { λ r. ⌜ leaving r (pool (now (owners .exit)) (now (medium .exit))) ≡ settles (first (rangeRows form Write capacity (pool (now (owners .entry)) (now (medium .entry))) (giving (now (cdb .entry)) (now («data_out» .entry))))) (moved form Write (pool (now (owners .entry)) (now (medium .entry))) (giving (now (cdb .entry)) (now («data_out» .entry)))) (pool (now (owners .entry)) (now (medium .entry))) ⌝ }
 {

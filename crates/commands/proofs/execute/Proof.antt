@@ -1,64 +1,47 @@
-use mathlib.Core.Path.{_≡_, sym, ap, _∙_}
+-- `commands::execute` meets its contract. Assumes nothing.
+use mathlib.Core.Path.{sym, _∙_}
+use borrow.Author.Needs.{needs}
 use Rattle.commands.proofs.ReadyLaws.{ready-bounded, ready-sense}
 use Rattle.commands.proofs.StepLaws.{step-served, step-unready}
-use borrow.Author.Needs.{needs}
 use Rattle.commands.proofs.execute.Statement.{statement}
 use Rattle.commands.proofs.execute.Tie as tie
-use Rattle.commands.proofs.execute.Reads as reads
-use Rattle.commands.proofs.execute.Lts as lts
-use Rattle.commands.proofs.ready.ready.Reads as ready-reads
-use Rattle.commands.proofs.serve.answered.Reads as answered-reads
-use Rattle.commands.proofs.serve.serve.Reads as serve-reads
 
--- src/lib.rt:50:8
 ready-requires : tie.Need-ready-requires
 ready-requires c κs = search needs
 
--- src/lib.rt:51:13
 serve-requires : tie.Need-serve-requires
 serve-requires c κs = ready-bounded _ _ _ _ _ _ (sym (c .before .before .before .before .ready .ensures) ∙ (c .before .before .before .if1 .taken))
 
--- src/lib.rt:53:9
 put-sense-requires : tie.Need-put-sense-requires
 put-sense-requires c κs = ready-sense _ _ _ _ _ _ (sym (c .before .before .before .before .before .before .before .before .before .before .before .before .ready .ensures) ∙ (c .before .before .before .before .before .before .before .before .before .before .before .if1 .taken))
 
--- src/lib.rt:56:9
 answered-requires : tie.Need-answered-requires
 answered-requires c κs = search needs
 
--- src/lib.rt:38:1
 same-length : tie.Need-same-length
 same-length c = search needs
 
--- src/lib.rt:38:1
 same-length-2 : tie.Need-same-length-2
 same-length-2 c = search needs
 
--- src/lib.rt:38:1
 same-length-3 : tie.Need-same-length-3
 same-length-3 c = search needs
 
--- src/lib.rt:38:1
 same-length-4 : tie.Need-same-length-4
 same-length-4 c = search needs
 
--- src/lib.rt:38:1
 returns : tie.Need-returns
 returns c = step-served _ _ _ _ _ _ _ _ _ _ _ (sym (c .before .before .before .before .before .before .before .before .before .before .before .before .before .before .before .ready .ensures) ∙ (c .before .before .before .before .before .before .before .before .before .before .before .before .before .before .if1 .taken)) (c .before .before .before .before .before .before .before .before .before .before .serve .ensures) (c .before .before .put-sense .ensures)
 
--- src/lib.rt:38:1
 same-length-5 : tie.Need-same-length-5
 same-length-5 c = search needs
 
--- src/lib.rt:38:1
 same-length-6 : tie.Need-same-length-6
 same-length-6 c = search needs
 
--- src/lib.rt:38:1
 same-length-7 : tie.Need-same-length-7
 same-length-7 c = search needs
 
--- src/lib.rt:38:1
 returns-2 : tie.Need-returns-2
 returns-2 c = rw (c .answered .ensures) (step-unready _ _ _ _ _ _ (sym (c .before .before .ready .ensures) ∙ (c .before .if1 .left)))
 

@@ -1,31 +1,24 @@
-use mathlib.Core.Path.{_≡_, sym, ap, _∙_}
+-- `commands::alter::flagged` meets its contract. Assumes nothing.
+use mathlib.Core.Path.{sym, _∙_}
 use borrow.Author.Needs.{needs}
 use Rattle.commands.proofs.alter.flagged.Statement.{statement}
 use Rattle.commands.proofs.alter.flagged.Tie as tie
-use Rattle.commands.proofs.alter.flagged.Reads as reads
-use Rattle.commands.proofs.alter.flagged.Lts as lts
 
--- src/alter.rt:22:8
 bit-requires : tie.Need-bit-requires
 bit-requires c κs = search needs
 
--- src/alter.rt:23:9
 returns : tie.Need-returns
 returns c = simp (sym (c .before .bit .ensures) ∙ (c .if1 .taken))
 
--- src/alter.rt:25:8
 bit-requires-2 : tie.Need-bit-requires-2
 bit-requires-2 c κs = search needs
 
--- src/alter.rt:26:9
 returns-2 : tie.Need-returns-2
 returns-2 c = simp (sym (c .before .before .before .bit .ensures) ∙ (c .before .before .if1 .left), sym (c .before .bit2 .ensures) ∙ (c .if2 .taken))
 
--- src/alter.rt:28:5
 bit-requires-3 : tie.Need-bit-requires-3
 bit-requires-3 c κs = search needs
 
--- src/alter.rt:19:1
 returns-3 : tie.Need-returns-3
 returns-3 c = simp (sym (c .before .before .before .before .bit .ensures) ∙ (c .before .before .before .if1 .left), sym (c .before .before .bit2 .ensures) ∙ (c .before .if2 .left), (c .bit3 .ensures))
 

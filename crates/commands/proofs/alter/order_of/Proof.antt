@@ -1,32 +1,24 @@
-use Rattle.commands.specs.Alter.{orderOf}
+-- `commands::alter::order_of` meets its contract. Assumes nothing.
 use borrow.Author.Needs.{needs}
+use Rattle.commands.specs.Alter.{orderOf}
 use Rattle.commands.proofs.alter.order_of.Statement.{statement}
 use Rattle.commands.proofs.alter.order_of.Tie as tie
-use Rattle.commands.proofs.alter.order_of.Reads as reads
-use Rattle.commands.proofs.alter.order_of.Lts as lts
-use Rattle.commands.proofs.alter.flagged.Reads as flagged-reads
 
--- src/alter.rt:34:16
 byte-requires : tie.Need-byte-requires
 byte-requires c κs = search needs
 
--- src/alter.rt:35:9
 number-requires : tie.Need-number-requires
 number-requires c κs = search needs
 
--- src/alter.rt:36:9
 number-requires-2 : tie.Need-number-requires-2
 number-requires-2 c κs = search needs
 
--- src/alter.rt:37:25
 byte-requires-2 : tie.Need-byte-requires-2
 byte-requires-2 c κs = search needs
 
--- src/alter.rt:37:9
 flagged-requires : tie.Need-flagged-requires
 flagged-requires c κs = search needs
 
--- src/alter.rt:31:1
 returns : tie.Need-returns
 unfolding orderOf
 returns c = simp ((c .before .before .before .before .byte .ensures), (c .before .before .before .number .ensures .0), (c .before .before .number2 .ensures .0), (c .before .byte2 .ensures), (c .flagged .ensures))

@@ -1,44 +1,33 @@
-use Rattle.commands.proofs.TellLaws.{capacity10-is}
+-- `commands::pages::capacity10` meets its contract. Assumes nothing.
 use borrow.Author.Needs.{needs}
+use Rattle.commands.proofs.TellLaws.{capacity10-is}
 use Rattle.commands.proofs.pages.capacity10.Statement.{statement}
 use Rattle.commands.proofs.pages.capacity10.Tie as tie
-use Rattle.commands.proofs.pages.capacity10.Reads as reads
-use Rattle.commands.proofs.pages.capacity10.Lts as lts
-use Rattle.commands.proofs.pages.shown.Reads as shown-reads
 
--- src/pages.rt:27:22
 sub-shown : tie.Need-sub-shown
 sub-shown c = search needs
 
--- src/pages.rt:27:9
 shown-requires : tie.Need-shown-requires
 shown-requires c κs = search needs
 
--- src/pages.rt:28:34
 cast-bytes4 : tie.Need-cast-bytes4
 cast-bytes4 c = search needs
 
--- src/pages.rt:28:13
 bytes4-requires : tie.Need-bytes4-requires
 bytes4-requires c κs = search needs
 
--- src/pages.rt:29:6
 array-read-t9 : tie.Need-array-read-t9
 array-read-t9 c = search needs
 
--- src/pages.rt:29:12
 array-read-t12 : tie.Need-array-read-t12
 array-read-t12 c = search needs
 
--- src/pages.rt:29:18
 array-read-t15 : tie.Need-array-read-t15
 array-read-t15 c = search needs
 
--- src/pages.rt:29:24
 array-read-t18 : tie.Need-array-read-t18
 array-read-t18 c = search needs
 
--- src/pages.rt:23:1
 returns : tie.Need-returns
 returns c = capacity10-is _ _ (rw (c .before .shown .ensures) at (c .bytes4 .ensures))
 

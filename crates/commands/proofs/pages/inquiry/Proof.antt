@@ -1,12 +1,9 @@
+-- `commands::pages::inquiry` meets its contract. Assumes nothing.
 use mathlib.Core.Path.{refl}
 use Rattle.commands.specs.Tell.{inquiryData}
-use borrow.Author.Needs.{needs}
 use Rattle.commands.proofs.pages.inquiry.Statement.{statement}
 use Rattle.commands.proofs.pages.inquiry.Tie as tie
-use Rattle.commands.proofs.pages.inquiry.Reads as reads
-use Rattle.commands.proofs.pages.inquiry.Lts as lts
 
--- src/pages.rt:6:1
 returns : tie.Need-returns
 unfolding inquiryData
 returns c = refl

@@ -1,36 +1,28 @@
-use mathlib.Core.Path.{_≡_, sym, ap, _∙_}
-use Rattle.commands.proofs.ReadyLaws.{map-valid, map-beyond, map-clash}
+-- `commands::ready::map_ok` meets its contract. Assumes nothing.
+use mathlib.Core.Path.{sym, _∙_}
 use borrow.Author.Needs.{needs}
+use Rattle.commands.proofs.ReadyLaws.{map-valid, map-beyond, map-clash}
 use Rattle.commands.proofs.ready.map_ok.Statement.{statement}
 use Rattle.commands.proofs.ready.map_ok.Tie as tie
-use Rattle.commands.proofs.ready.map_ok.Reads as reads
-use Rattle.commands.proofs.ready.map_ok.Lts as lts
 
--- src/ready.rt:33:9
 check-requires : tie.Need-check-requires
 check-requires c κs = search needs
 
--- src/ready.rt:35:27
 enum-told : tie.Need-enum-told
 enum-told c = search needs
 
--- src/ready.rt:36:31
 enum-told-2 : tie.Need-enum-told-2
 enum-told-2 c = search needs
 
--- src/ready.rt:37:33
 enum-told-3 : tie.Need-enum-told-3
 enum-told-3 c = search needs
 
--- src/ready.rt:30:1
 returns : tie.Need-returns
 returns c = map-valid _ _ (sym (c .before .before .check .ensures) ∙ (c .enum-told .given .1))
 
--- src/ready.rt:30:1
 returns-2 : tie.Need-returns-2
 returns-2 c = map-beyond _ _ _ (sym (c .before .before .check .ensures) ∙ (c .enum-told2 .given .1))
 
--- src/ready.rt:30:1
 returns-3 : tie.Need-returns-3
 returns-3 c = map-clash _ _ _ _ (sym (c .before .before .check .ensures) ∙ (c .enum-told3 .given .1))
 

@@ -1,39 +1,29 @@
-use mathlib.Core.Path.{_≡_, sym, ap, _∙_}
+-- `commands::ready::ready` meets its contract. Assumes nothing.
+use mathlib.Core.Path.{sym, _∙_}
 use borrow.Author.Tests.{not-true, not-false, ne-eqb, eq-eqb, lt-ltb, le-ltb}
-use Rattle.commands.proofs.ReadyLaws.{ready-nexus, ready-empty, ready-short, ready-unit, ready-rest}
 use borrow.Author.Needs.{needs}
+use Rattle.commands.proofs.ReadyLaws.{ready-nexus, ready-empty, ready-short, ready-unit, ready-rest}
 use Rattle.commands.proofs.ready.ready.Statement.{statement}
 use Rattle.commands.proofs.ready.ready.Tie as tie
-use Rattle.commands.proofs.ready.ready.Reads as reads
-use Rattle.commands.proofs.ready.ready.Lts as lts
-use Rattle.commands.proofs.ready.pool_ok.Reads as pool-ok-reads
-use Rattle.commands.proofs.ready.unit_ok.Reads as unit-ok-reads
 
--- src/ready.rt:68:9
 returns : tie.Need-returns
 returns c = ready-nexus _ _ (lt-ltb _ _ (c .if1 .taken))
 
--- src/ready.rt:71:9
 returns-2 : tie.Need-returns-2
 returns-2 c = ready-empty _ _ (eq-eqb _ _ (c .if2 .taken))
 
--- src/ready.rt:74:9
 returns-3 : tie.Need-returns-3
 returns-3 c = ready-short _ _ (lt-ltb _ _ (c .if3 .taken))
 
--- src/ready.rt:76:9
 unit-ok-requires : tie.Need-unit-ok-requires
 unit-ok-requires c κs = search needs
 
--- src/ready.rt:77:9
 returns-4 : tie.Need-returns-4
 returns-4 c = ready-unit _ _ (sym (c .before .unit-ok .ensures) ∙ not-true _ (c .if4 .taken))
 
--- src/ready.rt:79:5
 pool-ok-requires : tie.Need-pool-ok-requires
 pool-ok-requires c κs = search needs
 
--- src/ready.rt:64:1
 returns-5 : tie.Need-returns-5
 returns-5 c = (c .pool-ok .ensures) ∙ ready-rest _ _ (le-ltb _ _ (c .before .before .before .before .before .if1 .left)) (ne-eqb _ _ (c .before .before .before .before .if2 .left)) (le-ltb _ _ (c .before .before .before .if3 .left)) (sym (c .before .before .unit-ok .ensures) ∙ not-false _ (c .before .if4 .left))
 

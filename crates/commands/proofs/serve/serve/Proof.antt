@@ -1,50 +1,38 @@
-use mathlib.Core.Path.{_≡_, sym, ap, _∙_}
+-- `commands::serve::serve` meets its contract. Assumes nothing.
+use mathlib.Core.Path.{sym, _∙_}
+use borrow.Author.Needs.{needs}
 use Rattle.forms.proofs.Table.{sound-of}
 use Rattle.commands.proofs.StepLaws.{tag-refuses, form-refused, form-passed}
-use borrow.Author.Needs.{needs}
 use Rattle.commands.proofs.serve.serve.Statement.{statement}
 use Rattle.commands.proofs.serve.serve.Tie as tie
-use Rattle.commands.proofs.serve.serve.Reads as reads
-use Rattle.commands.proofs.serve.serve.Lts as lts
-use Rattle.commands.proofs.serve.act.Reads as act-reads
-use Rattle.commands.proofs.serve.answered.Reads as answered-reads
 
--- src/serve.rt:149:9
 form-of-requires : tie.Need-form-of-requires
 form-of-requires c κs = search needs
 
--- src/serve.rt:150:9
 refusal-requires : tie.Need-refusal-requires
 refusal-requires c κs = rw (c .form-of .ensures) (sound-of _)
 
 enum-told : tie.Need-enum-told
 enum-told c = search needs
 
--- src/serve.rt:152:9
 answered-requires : tie.Need-answered-requires
 answered-requires c κs = search needs
 
--- src/serve.rt:152:9
 returns : tie.Need-returns
 returns c = rw ((c .answered .ensures), ← (c .before .before .before .form-of .ensures)) (form-refused _ _ _ _ (c .before .before .refusal .ensures) (tag-refuses _ (c .before .match .keys2)))
 
--- src/serve.rt:154:5
 act-requires : tie.Need-act-requires
 act-requires c κs = (rw (c .before .before .before .before .before .before .form-of .ensures) (sound-of _), (c .before .before .before .before .before .before .before .before .before .before .before .before .pre), sym (c .before .before .before .before .before .refusal .ensures) ∙ (c .before .before .before .enum-told .given .1))
 
--- src/serve.rt:137:1
 same-length : tie.Need-same-length
 same-length c = search needs
 
--- src/serve.rt:137:1
 same-length-2 : tie.Need-same-length-2
 same-length-2 c = search needs
 
--- src/serve.rt:137:1
 same-length-3 : tie.Need-same-length-3
 same-length-3 c = search needs
 
--- src/serve.rt:137:1
 returns-2 : tie.Need-returns-2
 returns-2 c = rw (← (c .before .before .before .before .before .before .before .before .before .before .before .before .before .form-of .ensures)) ((c .before .before .before .before .before .before .act .ensures) ∙ form-passed _ _ _ (sym (c .before .before .before .before .before .before .before .before .before .before .before .before .refusal .ensures) ∙ (c .before .before .before .before .before .before .before .before .before .before .enum-told .given .1)))
 

@@ -1,23 +1,18 @@
-use Rattle.commands.proofs.TellLaws.{allowed-all, allowed-whole, allowed-cut}
+-- `commands::tell::cut_to` meets its contract. Assumes nothing.
 use borrow.Author.Needs.{needs}
+use Rattle.commands.proofs.TellLaws.{allowed-all, allowed-whole, allowed-cut}
 use Rattle.commands.proofs.tell.cut_to.Statement.{statement}
 use Rattle.commands.proofs.tell.cut_to.Tie as tie
-use Rattle.commands.proofs.tell.cut_to.Reads as reads
-use Rattle.commands.proofs.tell.cut_to.Lts as lts
 
--- src/tell.rt:26:9
 returns : tie.Need-returns
 returns c = (search needs, allowed-all _ _ _ (c .if1 .taken))
 
--- src/tell.rt:28:22
 size-requires : tie.Need-size-requires
 size-requires c κs = search needs
 
--- src/tell.rt:20:1
 returns-2 : tie.Need-returns-2
 returns-2 c = (search needs, allowed-whole _ _ _ _ (c .before .size .ensures .0) (c .before .before .if1 .left) (c .if2 .taken))
 
--- src/tell.rt:20:1
 returns-3 : tie.Need-returns-3
 returns-3 c = (search needs, allowed-cut _ _ _ _ (c .before .size .ensures .0) (c .before .before .if1 .left) (c .if2 .left))
 

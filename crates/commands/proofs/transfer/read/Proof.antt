@@ -1,51 +1,39 @@
-use mathlib.Core.Path.{_≡_, sym, ap, _∙_}
+-- `commands::transfer::read` meets its contract. Assumes nothing.
+use mathlib.Core.Path.{sym, _∙_}
 use native.Mathlib.Omega.{arith}
-use Rattle.commands.proofs.MoveLaws.{range-in, read-range, read-short, read-done}
 use borrow.Author.Needs.{needs}
+use Rattle.commands.proofs.MoveLaws.{range-in, read-range, read-short, read-done}
 use Rattle.commands.proofs.transfer.read.Statement.{statement}
 use Rattle.commands.proofs.transfer.read.Tie as tie
-use Rattle.commands.proofs.transfer.read.Reads as reads
-use Rattle.commands.proofs.transfer.read.Lts as lts
-use Rattle.commands.proofs.transfer.past_end.Reads as past-end-reads
 
--- src/transfer.rt:31:9
 address-requires : tie.Need-address-requires
 address-requires c κs = search needs
 
--- src/transfer.rt:32:9
 size-requires : tie.Need-size-requires
 size-requires c κs = search needs
 
--- src/transfer.rt:33:8
 past-end-requires : tie.Need-past-end-requires
 past-end-requires c κs = search needs
 
--- src/transfer.rt:34:13
 out-of-range-requires : tie.Need-out-of-range-requires
 out-of-range-requires c κs = search needs
 
--- src/transfer.rt:35:9
 returns : tie.Need-returns
 returns c = read-range _ _ _ _ _ (c .before .before .before .before .address .ensures) (c .before .before .before .size .ensures .0) _ _ _ (c .out-of-range .ensures) (sym (c .before .before .past-end .ensures) ∙ (c .before .if1 .taken))
 
--- src/transfer.rt:41:17
 mul-bytes : tie.Need-mul-bytes
 mul-bytes c = search needs
 
--- src/transfer.rt:43:9
 returns-2 : tie.Need-returns-2
 returns-2 c = read-short _ _ _ _ _ (c .before .before .before .before .address .ensures) (c .before .before .before .size .ensures .0) _ _ (sym (c .before .before .past-end .ensures) ∙ (c .before .if1 .left)) (c .if2 .taken)
 
--- src/transfer.rt:48:5
 read-blocks-requires : tie.Need-read-blocks-requires
 read-blocks-requires c κs =
     (omega (arith, (c .before .before .before .before .before .before .before .before .before .before .pre .2), (c .before .before .before .before .size .ensures .0)), range-in (c .before .before .before .before .before .before .before .before .before .before .args .capacity) (c .before .before .before .before .before .address .result) (c .before .before .before .before .size .result) (sym (c .before .before .before .past-end .ensures) ∙ (c .before .before .if1 .left)) (c .before .before .before .before .before .before .before .before .before .before .pre .1 .few), (c .before .before .before .before .before .before .before .before .before .before .pre .1 .slots), (c .before .before .before .before .before .before .before .before .before .before .pre .1 .whole), (c .before .if2 .left))
 
--- src/transfer.rt:27:1
 same-length : tie.Need-same-length
 same-length c = search needs
 
--- src/transfer.rt:27:1
 returns-3 : tie.Need-returns-3
 returns-3 c = read-done _ _ _ _ _ (c .before .before .before .before .before .before .before .before .address .ensures) (c .before .before .before .before .before .before .before .size .ensures .0) _ _ _ (sym (c .before .before .before .before .before .before .past-end .ensures) ∙ (c .before .before .before .before .before .if1 .left)) (c .before .before .before .before .if2 .left) (c .before .before .before .before .before .before .before .before .before .before .before .before .before .pre .1 .whole) (c .before .before .read-blocks .ensures)
 

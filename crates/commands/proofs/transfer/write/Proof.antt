@@ -1,71 +1,54 @@
-use mathlib.Core.Path.{_≡_, sym, ap, _∙_}
+-- `commands::transfer::write` meets its contract. Assumes nothing.
+use mathlib.Core.Path.{sym, _∙_}
 use native.Mathlib.Omega.{arith}
-use Rattle.commands.proofs.MoveLaws.{range-in, write-range, write-short, write-done, write-full}
 use borrow.Author.Needs.{needs}
+use Rattle.commands.proofs.MoveLaws.{range-in, write-range, write-short, write-done, write-full}
 use Rattle.commands.proofs.transfer.write.Statement.{statement}
 use Rattle.commands.proofs.transfer.write.Tie as tie
-use Rattle.commands.proofs.transfer.write.Reads as reads
-use Rattle.commands.proofs.transfer.write.Lts as lts
-use Rattle.commands.proofs.transfer.past_end.Reads as past-end-reads
 
--- src/transfer.rt:59:9
 address-requires : tie.Need-address-requires
 address-requires c κs = search needs
 
--- src/transfer.rt:60:9
 size-requires : tie.Need-size-requires
 size-requires c κs = search needs
 
--- src/transfer.rt:61:8
 past-end-requires : tie.Need-past-end-requires
 past-end-requires c κs = search needs
 
--- src/transfer.rt:62:9
 out-of-range-requires : tie.Need-out-of-range-requires
 out-of-range-requires c κs = search needs
 
--- src/transfer.rt:62:9
 returns : tie.Need-returns
 returns c = write-range _ _ _ _ _ (c .before .before .before .before .address .ensures) (c .before .before .before .size .ensures .0) _ _ _ (c .out-of-range .ensures) (sym (c .before .before .past-end .ensures) ∙ (c .before .if1 .taken))
 
--- src/transfer.rt:65:25
 mul-if2 : tie.Need-mul-if2
 mul-if2 c = search needs
 
--- src/transfer.rt:66:9
 returns-2 : tie.Need-returns-2
 returns-2 c = write-short _ _ _ _ _ (c .before .before .before .before .address .ensures) (c .before .before .before .size .ensures .0) _ _ (sym (c .before .before .past-end .ensures) ∙ (c .before .if1 .left)) (c .if2 .taken)
 
--- src/transfer.rt:68:8
 write-blocks-requires : tie.Need-write-blocks-requires
 write-blocks-requires c κs =
     (omega (arith, (c .before .before .before .before .before .before .before .before .before .before .before .pre .2), (c .before .before .before .before .before .size .ensures .0)), range-in (c .before .before .before .before .before .before .before .before .before .before .before .args .capacity) (c .before .before .before .before .before .before .address .result) (c .before .before .before .before .before .size .result) (sym (c .before .before .before .before .past-end .ensures) ∙ (c .before .before .before .if1 .left)) (c .before .before .before .before .before .before .before .before .before .before .before .pre .1 .few), (c .before .before .before .before .before .before .before .before .before .before .before .pre .1 .slots), (c .before .before .before .before .before .before .before .before .before .before .before .pre .1 .whole), (c .before .before .if2 .left))
 
--- src/transfer.rt:71:9
 no-room-requires : tie.Need-no-room-requires
 no-room-requires c κs = search needs
 
--- src/transfer.rt:55:1
 same-length : tie.Need-same-length
 same-length c = search needs
 
--- src/transfer.rt:55:1
 same-length-2 : tie.Need-same-length-2
 same-length-2 c = search needs
 
--- src/transfer.rt:55:1
 returns-3 : tie.Need-returns-3
 returns-3 c = write-done _ _ _ _ _ (c .before .before .before .before .before .before .before .before .before .before .before .before .address .ensures) (c .before .before .before .before .before .before .before .before .before .before .before .size .ensures .0) _ _ _ _ _ (c .before .before .before .before .before .write-blocks .ensures) (sym (c .before .before .before .before .before .before .before .before .before .before .past-end .ensures) ∙ (c .before .before .before .before .before .before .before .before .before .if1 .left)) (c .before .before .before .before .before .before .before .before .if2 .left) (c .if3 .taken)
 
--- src/transfer.rt:55:1
 same-length-3 : tie.Need-same-length-3
 same-length-3 c = search needs
 
--- src/transfer.rt:55:1
 same-length-4 : tie.Need-same-length-4
 same-length-4 c = search needs
 
--- src/transfer.rt:55:1
 returns-4 : tie.Need-returns-4
 returns-4 c = write-full _ _ _ _ _ (c .before .before .before .before .before .before .before .before .before .before .before .before .before .address .ensures) (c .before .before .before .before .before .before .before .before .before .before .before .before .size .ensures .0) _ _ _ _ _ (c .before .before .before .before .before .before .write-blocks .ensures) _ (c .no-room .ensures) (sym (c .before .before .before .before .before .before .before .before .before .before .before .past-end .ensures) ∙ (c .before .before .before .before .before .before .before .before .before .before .if1 .left)) (c .before .before .before .before .before .before .before .before .before .if2 .left) (c .before .if3 .left)
 

@@ -1,0 +1,25 @@
+-- A nexus above 15 is refused whatever its number is, so that one which does not fit a byte may be given as another.
+-- Assumes nothing.
+use mathlib.Core.Path.{_≡_, refl, sym, ap, _∙_}
+use mathlib.Core.List.{List, _++_}
+use Prim.Native.Nat.{ℕ, _<_, _≤_}
+use native.Mathlib.Omega.{arith}
+use borrow.Author.Tests.{lt-ltb}
+use Rattle.answers.specs.declared.Answer.{Answer}
+use Rattle.answers.specs.declared.Answer.the-variants.{Unusable}
+use Rattle.answers.specs.Answers.{senseAfter}
+use Rattle.answers.specs.Order.{ifGood}
+use Rattle.answers.proofs.OrderLaws.{row-stop}
+use Rattle.forms.specs.declared.Form.{Form}
+use Rattle.forms.specs.Forms.{formOf}
+use Rattle.commands.specs.Store.{Store, Call, Result, seenOf}
+use Rattle.commands.specs.Step.{callRows, answerBy, dataBy, storeBy, stepBy, step}
+
+far-answer : (f : Form) (s : Store) (c : Call) → 15 < c .nexus → answerBy f s c ≡ Unusable
+unfolding answerBy callRows
+far-answer f s c h = row-stop Unusable _ _ (lt-ltb _ _ h)
+
+pub far-step : (s : Store) (c : Call) → 15 < c .nexus
+    → step s c ≡ record { seen = record { answer = Unusable; returned = 0; dataIn = c .dataIn; sense = c .sense }; store = s }
+unfolding step stepBy seenOf ifGood senseAfter
+far-step s c h = rw (far-answer (formOf (c .cdb)) s c h)

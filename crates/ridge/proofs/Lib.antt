@@ -1,0 +1,4 @@
+pub mod WordLaws
+pub mod FarNexus
+pub mod InterfaceLaws
+pub mod WordsBack

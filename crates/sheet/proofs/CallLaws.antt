@@ -1,0 +1,162 @@
+-- Laws of the calls of a sheet: a fresh store, a call as the lent parts make it, and one turn of the loop over the calls.
+-- Assumes nothing.
+use mathlib.Core.Path.{_≡_, refl, sym, ap, _∙_}
+use mathlib.Core.Bool.{Bool, true, false, _&&_, false≢true}
+use mathlib.Core.List.{List, [], _∷_, _++_}
+use Prim.Native.Nat.{ℕ, zero, suc, _+_, _-_, _*_, _^_, _≤_, _<_}
+use native.Mathlib.Nat.{add-sub-cancel-left, zero-add, add-zero, add-assoc, sub-zero}
+use native.Mathlib.Numerals.{add-one}
+use native.Mathlib.Omega.{arith}
+use lib.Dec.{T, leb, eqb}
+use lib.ListN.{length, take, drop, replicate, length-append, length-replicate}
+use borrow.Author.Tests.{leb-true, eqb-true}
+use Rattle.fields.specs.Bytes.{part, put, zeros}
+use Rattle.fields.proofs.BytesLaws.{zeros-replicate, put-next, put-none}
+use Rattle.answers.specs.declared.Answer.the-variants.{Good}
+use Rattle.answers.specs.Order.{first, ifGood}
+use Rattle.map.specs.Valid.{capacityOk, slotsOk}
+use Rattle.commands.specs.declared.Unit.{Unit}
+use Rattle.commands.specs.Store.{Store, Call, Seen, Result}
+use Rattle.commands.specs.Step.{step}
+use Rattle.commands.specs.Fresh.{FreshResult, fresh, freshAnswer, freshUnit, freshStore}
+use Rattle.commands.specs.Contract.{storeOf, callOf}
+use Rattle.sheet.specs.Sheet.{calls, nexusOf, cdbLength, outLength, bodyEnd, bodiesEnd, bodiesBegin, goodSheet, callAt}
+use Rattle.sheet.specs.Printed.{heading, badSheet, seenLine, linesFrom, printed}
+use Rattle.sheet.specs.Put.{Puts}
+use Rattle.sheet.proofs.Turns.{bodies-turn}
+use Rattle.sheet.proofs.Returned.{returned-fits}
+
+-- ---- a fresh store of 8 blocks and 2 slots
+
+pub fresh-is : (owners : List ℕ) → length owners ≡ 2 → fresh 8 owners ≡ record { answer = Good; unit = freshUnit 8; owners = zeros 2 }
+unfolding fresh freshAnswer first ifGood capacityOk slotsOk
+fresh-is owners e = rw e
+
+pub fresh-store : (unit : Unit) (owners medium : List ℕ) → unit ≡ freshUnit 8 → owners ≡ zeros 2 → medium ≡ replicate 1024 0
+    → storeOf unit owners medium ≡ freshStore 8 2 (zeros 1024)
+unfolding freshStore
+fresh-store unit owners medium d e q = rw (d, e, q, ← zeros-replicate 1024)
+
+-- ---- a call
+
+pub call-is : (sheet : List ℕ) (i at nexus a b : ℕ) → nexus ≡ nexusOf sheet i → a ≡ cdbLength sheet i → b ≡ outLength sheet i
+    → callOf nexus (take (at + a - at) (drop at sheet)) (take (at + a + b - (at + a)) (drop (at + a) sheet)) (replicate 4096 0) (replicate 18 0) ≡ callAt sheet i at
+unfolding callAt part
+call-is sheet i at nexus a b p q r = rw (add-sub-cancel-left at a, add-sub-cancel-left (at + a) b, p, q, r, ← zeros-replicate 4096, ← zeros-replicate 18)
+
+-- what comes of it, for the call that the sheet says
+module _ (s : Store) (c d : Call) (x : Result) (e : x ≡ step s c) (q : c ≡ d) where
+  pub served-store : x .store ≡ step s d .store
+  served-store = ap (λ (y : Result). y .store) (e ∙ ap (step s) q)
+
+  pub served-line : (call : ℕ) → seenLine call (x .seen) ≡ seenLine call (step s d .seen)
+  served-line call = ap (λ (y : Result). seenLine call (y .seen)) (e ∙ ap (step s) q)
+
+pub returned-most : (s : Store) (nexus : ℕ) (cdb dataOut sense : List ℕ) (x : Result) → x ≡ step s (callOf nexus cdb dataOut (replicate 4096 0) sense)
+    → x .seen .returned ≤ 4096
+returned-most s nexus cdb dataOut sense x e =
+    rw e (rw (length-replicate {A = ℕ} 4096 0) at (returned-fits s (callOf nexus cdb dataOut (replicate 4096 0) sense)))
+
+-- ---- what a good sheet says of its bodies
+
+and-true-l : (a b : Bool) → (a && b) ≡ true → a ≡ true
+and-true-l true b e = refl
+and-true-l false b e = e
+
+and-true-r : (a b : Bool) → (a && b) ≡ true → b ≡ true
+and-true-r true b e = e
+and-true-r false b e = absurd (false≢true e)
+
+module _ (sheet : List ℕ) (good : goodSheet sheet ≡ true) where
+  pub good-end : bodiesEnd sheet 0 (calls sheet) (bodiesBegin sheet) ≡ length sheet
+  unfolding goodSheet
+  good-end = eqb-true _ _ (and-true-r (leb 1 (length sheet) && leb (length sheet) 65536 && leb (calls sheet) 32) _ good)
+
+  pub good-calls : calls sheet ≤ 32
+  unfolding goodSheet
+  good-calls =
+      leb-true _ _
+      (and-true-r (leb 1 (length sheet) && leb (length sheet) 65536) _
+      (and-true-l _ (eqb (bodiesEnd sheet 0 (calls sheet) (bodiesBegin sheet)) (length sheet)) good))
+
+  pub good-length : length sheet ≤ 65536
+  unfolding goodSheet
+  good-length =
+      leb-true _ _
+      (and-true-r (leb 1 (length sheet)) _
+      (and-true-l _ (leb (calls sheet) 32)
+      (and-true-l _ (eqb (bodiesEnd sheet 0 (calls sheet) (bodiesBegin sheet)) (length sheet)) good)))
+
+-- the bodies lie one behind the other
+pub bodies-rise : (sheet : List ℕ) (i n at : ℕ) → at ≤ bodiesEnd sheet i n at
+unfolding bodiesEnd bodyEnd
+bodies-rise sheet i zero at = omega arith
+bodies-rise sheet i (suc n) at = omega (arith, bodies-rise sheet (suc i) n (at + (cdbLength sheet i + outLength sheet i)))
+
+module _ (sheet : List ℕ) (i n at : ℕ) (end : bodiesEnd sheet i (n - i) at ≡ length sheet) where
+  pub body-begins : at ≤ length sheet
+  body-begins = omega (arith, end, bodies-rise sheet i (n - i) at)
+
+  pub body-ends : i < n → bodyEnd sheet i at ≤ length sheet
+  body-ends h =
+      omega
+      (arith, end, bodies-turn sheet i n at (bodyEnd sheet i at) h refl, bodies-rise sheet (i + 1) (n - (i + 1)) (bodyEnd sheet i at))
+
+pub bodies-begin : (sheet : List ℕ) (n : ℕ) → goodSheet sheet ≡ true → n ≡ calls sheet → bodiesEnd sheet 0 (n - 0) (1 + 4 * n) ≡ length sheet
+unfolding bodiesBegin
+bodies-begin sheet n good e = rw (sub-zero n, e) (good-end sheet good)
+
+-- ---- the lines that are still to come: what is put and what is to come make the whole
+
+pub record ToCome (whole before : List ℕ) (start : ℕ) (rest out : List ℕ) (end : ℕ) : Type 0 where
+  pub bytes : put out end rest ≡ put before start whole
+  pub behind : end + length rest ≡ start + length whole
+
+pub come-begin : (sheet out : List ℕ) (start n : ℕ) (s t : Store) → n ≡ calls sheet → s ≡ t
+    → ToCome (linesFrom t sheet 0 (calls sheet) (bodiesBegin sheet)) out start (linesFrom s sheet 0 (n - 0) (1 + 4 * n)) out start
+unfolding bodiesBegin
+come-begin sheet out start n s t e q = rw (sub-zero n, e, q) (record { bytes = refl; behind = refl })
+
+lines-more : (s : Store) (sheet : List ℕ) (i m n at : ℕ) → n ≡ suc m
+    → linesFrom s sheet i n at ≡ seenLine (i + 1) (step s (callAt sheet i at) .seen) ++ linesFrom (step s (callAt sheet i at) .store) sheet (i + 1) m (bodyEnd sheet i at)
+unfolding linesFrom
+lines-more s sheet i m n at e = rw (e, add-one i)
+
+come-more : (whole before line rest out after : List ℕ) (start end next : ℕ) → Puts line out end after next
+    → ToCome whole before start (line ++ rest) out end → ToCome whole before start rest after next
+come-more whole before line rest out after start end next p t = record {
+  bytes = rw (p .bytes, p .behind) (put-next out end line rest ∙ t .bytes);
+  behind = rw (p .behind, add-assoc end (length line) (length rest), ← length-append line rest) (t .behind);
+}
+
+pub come-turn : (whole before out after sheet : List ℕ) (start end next i n at later : ℕ) (s t : Store)
+    → i < n → later ≡ bodyEnd sheet i at → t ≡ step s (callAt sheet i at) .store
+    → Puts (seenLine (i + 1) (step s (callAt sheet i at) .seen)) out end after next
+    → ToCome whole before start (linesFrom s sheet i (n - i) at) out end
+    → ToCome whole before start (linesFrom t sheet (i + 1) (n - (i + 1)) later) after next
+come-turn whole before out after sheet start end next i n at later s t h e q p c =
+    rw (e, q)
+    (come-more whole before _ _ out after start end next p (rw (lines-more s sheet i (n - (i + 1)) (n - i) at (omega arith)) at c))
+
+pub come-done : (whole before out sheet : List ℕ) (start end i n at : ℕ) (s : Store) → n ≤ i
+    → ToCome whole before start (linesFrom s sheet i (n - i) at) out end → Puts whole before start out end
+unfolding linesFrom
+come-done whole before out sheet start end i n at s h c =
+    let e : n - i ≡ 0 = omega arith in
+    let none : ToCome whole before start [] out end = rw e at c in
+    record { bytes = sym (put-none out end) ∙ none .bytes; behind = sym (add-zero end) ∙ none .behind }
+
+-- ---- what is printed
+
+pub printed-good : (sheet : List ℕ) → goodSheet sheet ≡ true
+    → heading ++ linesFrom (freshStore 8 2 (zeros 1024)) sheet 0 (calls sheet) (bodiesBegin sheet) ≡ printed sheet
+unfolding printed
+printed-good sheet e = rw e
+
+pub printed-bad : (sheet : List ℕ) → goodSheet sheet ≡ false → badSheet ≡ printed sheet
+unfolding printed
+printed-bad sheet e = rw e
+
+-- from the buffer's first byte on, the place behind is the length
+pub behind-first : {text l after : List ℕ} {end : ℕ} → Puts text l 0 after end → end ≡ length text
+behind-first {text} p = p .behind ∙ zero-add (length text)

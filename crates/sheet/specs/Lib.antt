@@ -1,0 +1,4 @@
+pub mod Put
+pub mod Sheet
+pub mod Line
+pub mod Printed

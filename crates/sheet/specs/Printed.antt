@@ -1,0 +1,42 @@
+-- What a call sheet prints: "A bench program, fresh store of capacity 8 and 2 slots, 4,096 bytes of data-in, reads a call sheet".
+-- Assumes nothing.
+use mathlib.Core.Bool.{Bool, true, false, cond}
+use mathlib.Core.List.{List, [], _∷_, _++_}
+use Prim.Native.Nat.{ℕ, zero, suc, _+_}
+use Rattle.fields.specs.Bytes.{zeros}
+use Rattle.commands.specs.Store.{Store, Call, Seen, Result}
+use Rattle.commands.specs.Step.{step}
+use Rattle.commands.specs.Fresh.{freshStore}
+use Rattle.sheet.specs.Sheet.{calls, bodyEnd, bodiesBegin, goodSheet, callAt}
+use Rattle.sheet.specs.Line.{lineOf}
+
+-- "call,answer,status,sense,length,data" and a line feed
+unfoldable pub heading : List ℕ
+heading =
+    0x63 ∷ 0x61 ∷ 0x6C ∷ 0x6C ∷ 0x2C
+    ∷ 0x61 ∷ 0x6E ∷ 0x73 ∷ 0x77 ∷ 0x65 ∷ 0x72 ∷ 0x2C
+    ∷ 0x73 ∷ 0x74 ∷ 0x61 ∷ 0x74 ∷ 0x75 ∷ 0x73 ∷ 0x2C
+    ∷ 0x73 ∷ 0x65 ∷ 0x6E ∷ 0x73 ∷ 0x65 ∷ 0x2C
+    ∷ 0x6C ∷ 0x65 ∷ 0x6E ∷ 0x67 ∷ 0x74 ∷ 0x68 ∷ 0x2C
+    ∷ 0x64 ∷ 0x61 ∷ 0x74 ∷ 0x61 ∷ 0x0A ∷ []
+
+-- "bad sheet" and a line feed
+unfoldable pub badSheet : List ℕ
+badSheet = 0x62 ∷ 0x61 ∷ 0x64 ∷ 0x20 ∷ 0x73 ∷ 0x68 ∷ 0x65 ∷ 0x65 ∷ 0x74 ∷ 0x0A ∷ []
+
+-- what a call's caller sees of it, as a line
+unfoldable pub seenLine : ℕ → Seen → List ℕ
+seenLine call x = lineOf call (x .answer) (x .returned) (x .dataIn)
+
+-- the lines of n calls from i on, the first body at byte `at`, on the store s
+unfoldable pub linesFrom : Store → List ℕ → ℕ → ℕ → ℕ → List ℕ
+linesFrom s sheet i zero at = []
+linesFrom s sheet i (suc n) at =
+    seenLine (suc i) (step s (callAt sheet i at) .seen)
+    ++ linesFrom (step s (callAt sheet i at) .store) sheet (suc i) n (bodyEnd sheet i at)
+
+unfoldable pub printed : List ℕ → List ℕ
+printed sheet =
+    cond (goodSheet sheet)
+    (heading ++ linesFrom (freshStore 8 2 (zeros 1024)) sheet 0 (calls sheet) (bodiesBegin sheet))
+    badSheet

@@ -1,0 +1,272 @@
+/*
+ * make_sheets.c - writes call sheets to a folder, each beside what the second
+ * program prints for it: make_sheets FOLDER COUNT SEED.
+ *
+ * The first are the edges of what a good sheet is. The others are random
+ * histories of sensible and damaged calls; one in four is damaged as a sheet.
+ * At the end it says how often each answer number is printed.
+ */
+
+#include <inttypes.h>
+#include <stdbool.h>
+#include <stdio.h>
+#include <stdlib.h>
+#include <string.h>
+
+#include "../differential/generate.h"
+#include "../second/second.h"
+#include "second_bench.h"
+
+/* A sheet; there is room for one that is too long. */
+struct sheet {
+    size_t bytes;
+    uint8_t byte[2 * SHEET_BYTES];
+};
+
+/* The contents and the bodies of a sheet in the making. */
+struct making {
+    size_t calls;
+    uint8_t contents[4 * 256];
+    size_t bytes;
+    uint8_t bodies[2 * SHEET_BYTES];
+};
+
+static uint64_t answers[16];
+
+static void add_call(struct making *making, uint8_t nexus, const uint8_t *cdb,
+                     size_t cdb_bytes, const uint8_t *data_out,
+                     size_t data_out_bytes)
+{
+    uint8_t *contents = making->contents + 4 * making->calls++;
+
+    contents[0] = nexus;
+    contents[1] = (uint8_t)cdb_bytes;
+    contents[2] = (uint8_t)(data_out_bytes >> 8);
+    contents[3] = (uint8_t)data_out_bytes;
+    memcpy(making->bodies + making->bytes, cdb, cdb_bytes);
+    making->bytes += cdb_bytes;
+    memcpy(making->bodies + making->bytes, data_out, data_out_bytes);
+    making->bytes += data_out_bytes;
+}
+
+static void finish(const struct making *making, struct sheet *sheet)
+{
+    sheet->byte[0] = (uint8_t)making->calls;
+    memcpy(sheet->byte + 1, making->contents, 4 * making->calls);
+    memcpy(sheet->byte + 1 + 4 * making->calls, making->bodies, making->bytes);
+    sheet->bytes = 1 + 4 * making->calls + making->bytes;
+}
+
+/* ---- The edges ---- */
+
+/* So many calls with an operation code that is not listed. */
+static void make_calls(size_t calls, struct sheet *sheet)
+{
+    static struct making making;
+    const uint8_t code = 0xFF;
+
+    making.calls = 0;
+    making.bytes = 0;
+    for (size_t index = 0; index < calls; index++)
+        add_call(&making, 0, &code, 1, NULL, 0);
+    finish(&making, sheet);
+}
+
+/* One READ CAPACITY(10) with so much data-out that the sheet has this length. */
+static void make_long(size_t bytes, struct sheet *sheet)
+{
+    static struct making making;
+    static const uint8_t nothing[SHEET_BYTES];
+    const uint8_t cdb[10] = {0x25};
+
+    making.calls = 0;
+    making.bytes = 0;
+    add_call(&making, 0, cdb, sizeof cdb, nothing, bytes - 5 - sizeof cdb);
+    finish(&making, sheet);
+}
+
+/* Makes the edge of that number; false if there is none. */
+static bool make_edge(unsigned long number, struct sheet *sheet)
+{
+    switch (number) {
+    case 0: /* empty */
+        sheet->bytes = 0;
+        return true;
+    case 1:
+        make_calls(0, sheet);
+        return true;
+    case 2: /* no call, and a byte more */
+        make_calls(0, sheet);
+        sheet->bytes++;
+        return true;
+    case 3:
+        make_calls(32, sheet);
+        return true;
+    case 4:
+        make_calls(33, sheet);
+        return true;
+    case 5:
+        make_calls(255, sheet);
+        return true;
+    case 6: /* contents that are cut */
+        make_calls(32, sheet);
+        sheet->bytes = 100;
+        return true;
+    case 7: /* the longest */
+        make_long(SHEET_BYTES, sheet);
+        return true;
+    case 8: /* a byte short of what it says */
+        make_long(SHEET_BYTES, sheet);
+        sheet->bytes--;
+        return true;
+    case 9: /* 64 KiB and a byte, as it says */
+        make_long(SHEET_BYTES + 1, sheet);
+        return true;
+    case 10: /* 64 KiB as it says, and a byte */
+        make_long(SHEET_BYTES, sheet);
+        sheet->bytes++;
+        return true;
+    case 11: /* far too long */
+        make_long(SHEET_BYTES, sheet);
+        sheet->bytes = 2 * SHEET_BYTES;
+        return true;
+    default:
+        return false;
+    }
+}
+
+/* ---- The random ones ---- */
+
+/* The REGISTER of a nexus that is not registered yet, under a key of its own. */
+static void make_registration(uint8_t nexus, struct request *request)
+{
+    static const uint8_t cdb[10] = {0x5F, 0, 0, 0, 0, 0, 0, 0, 24, 0};
+
+    memcpy(request->cdb, cdb, sizeof cdb);
+    request->cdb_bytes = sizeof cdb;
+    memset(request->data_out, 0, 24);
+    request->data_out[15] = (uint8_t)(nexus + 1);
+    request->data_out_bytes = 24;
+}
+
+/*
+ * A history on a fresh store; the second program tells how the store goes on.
+ * In one of eight all places are used first, so that there is no room for more.
+ */
+static void make_history(struct random *random, struct sheet *sheet)
+{
+    static struct making making;
+    static struct store store;
+    static struct request request;
+    size_t calls = random_below(random, SHEET_CALLS + 1);
+    bool crowded = random_below(random, 8) == 0;
+
+    making.calls = 0;
+    making.bytes = 0;
+    memset(&store, 0, sizeof store);
+    store.slots = BENCH_SLOTS;
+    second_fresh(BENCH_CAPACITY, store.state, RIDGE_STATE_WORDS, store.owners,
+                 store.slots);
+    for (size_t index = 0; index < calls; index++) {
+        uint8_t nexus = (uint8_t)generate_nexus(random, store.state);
+        uint8_t data_in[BENCH_DATA_IN];
+        uint8_t sense[18];
+        uint64_t returned;
+
+        if (crowded && index < RIDGE_PLACES) {
+            nexus = (uint8_t)index;
+            make_registration(nexus, &request);
+        } else if (random_percent(random, 10)) {
+            generate_rare(random, &store, &request);
+            nexus = (uint8_t)request.nexus;
+        } else {
+            generate_request(random, &store, nexus, &request);
+        }
+        if (1 + 4 * calls + making.bytes + request.cdb_bytes +
+                request.data_out_bytes > SHEET_BYTES)
+            break;
+        add_call(&making, nexus, request.cdb, request.cdb_bytes,
+                 request.data_out, request.data_out_bytes);
+        answers[second_execute(
+            store.state, RIDGE_STATE_WORDS, store.owners, store.slots,
+            store.medium, store.slots * RIDGE_BLOCK_BYTES, nexus, request.cdb,
+            request.cdb_bytes, request.data_out, request.data_out_bytes,
+            data_in, sizeof data_in, sense, sizeof sense, &returned)]++;
+    }
+    finish(&making, sheet);
+}
+
+static void damage(struct random *random, struct sheet *sheet)
+{
+    switch (random_below(random, 5)) {
+    case 0:
+        sheet->bytes -= 1 + random_below(random, sheet->bytes);
+        break;
+    case 1:
+        sheet->bytes += 1 + random_below(random, 9);
+        break;
+    case 2:
+        sheet->byte[0] = (uint8_t)random_word(random);
+        break;
+    case 3: /* a byte of the contents, most likely */
+        sheet->byte[random_below(random, 1 + 4 * sheet->byte[0])] =
+            (uint8_t)random_word(random);
+        break;
+    default:
+        sheet->bytes = random_below(random, 64);
+        random_fill(random, sheet->byte, sheet->bytes);
+        break;
+    }
+}
+
+/* ---- The files ---- */
+
+static FILE *open_file(const char *folder, unsigned long number,
+                       const char *kind)
+{
+    char name[4096];
+
+    snprintf(name, sizeof name, "%s/%05lu.%s", folder, number, kind);
+    FILE *file = fopen(name, "wb");
+    if (file == NULL) {
+        perror(name);
+        exit(1);
+    }
+    return file;
+}
+
+static void write_sheet(const char *folder, unsigned long number,
+                        const struct sheet *sheet)
+{
+    FILE *file = open_file(folder, number, "bytes");
+    fwrite(sheet->byte, 1, sheet->bytes, file);
+    fclose(file);
+    file = open_file(folder, number, "expected");
+    second_bench(sheet->byte, sheet->bytes, file);
+    fclose(file);
+}
+
+int main(int argc, char **argv)
+{
+    static struct sheet sheet;
+
+    if (argc != 4) {
+        fprintf(stderr, "usage: make_sheets FOLDER COUNT SEED\n");
+        return 2;
+    }
+    unsigned long count = strtoul(argv[2], NULL, 10);
+    struct random random = {strtoull(argv[3], NULL, 10)};
+    for (unsigned long number = 0; number < count; number++) {
+        if (!make_edge(number, &sheet)) {
+            make_history(&random, &sheet);
+            if (random_percent(&random, 25))
+                damage(&random, &sheet);
+        }
+        write_sheet(argv[1], number, &sheet);
+    }
+    printf("answers in the histories:");
+    for (unsigned number = 0; number <= 12; number++)
+        printf(" %u:%" PRIu64, number, answers[number]);
+    printf("\n");
+    return 0;
+}

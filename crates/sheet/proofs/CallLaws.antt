@@ -21,7 +21,7 @@ use Rattle.commands.specs.Step.{step}
 use Rattle.commands.specs.Fresh.{FreshResult, fresh, freshAnswer, freshUnit, freshStore}
 use Rattle.commands.specs.Contract.{storeOf, callOf}
 use Rattle.sheet.specs.Sheet.{calls, nexusOf, cdbLength, outLength, bodyEnd, bodiesEnd, bodiesBegin, goodSheet, callAt}
-use Rattle.sheet.specs.Printed.{heading, badSheet, seenLine, linesFrom, printed}
+use Rattle.sheet.specs.Printed.{heading, badSheet, seenLine, linesFrom, benchStore, linesOf, printed}
 use Rattle.sheet.specs.Put.{Puts}
 use Rattle.sheet.proofs.Turns.{bodies-turn}
 use Rattle.sheet.proofs.Returned.{returned-fits}
@@ -33,8 +33,8 @@ unfolding fresh freshAnswer first ifGood capacityOk slotsOk
 fresh-is owners e = rw e
 
 pub fresh-store : (unit : Unit) (owners medium : List ℕ) → unit ≡ freshUnit 8 → owners ≡ zeros 2 → medium ≡ replicate 1024 0
-    → storeOf unit owners medium ≡ freshStore 8 2 (zeros 1024)
-unfolding freshStore
+    → storeOf unit owners medium ≡ benchStore
+unfolding benchStore freshStore
 fresh-store unit owners medium d e q = rw (d, e, q, ← zeros-replicate 1024)
 
 -- ---- a call
@@ -112,10 +112,10 @@ pub record ToCome (whole before : List ℕ) (start : ℕ) (rest out : List ℕ) 
   pub bytes : put out end rest ≡ put before start whole
   pub behind : end + length rest ≡ start + length whole
 
-pub come-begin : (sheet out : List ℕ) (start n : ℕ) (s t : Store) → n ≡ calls sheet → s ≡ t
-    → ToCome (linesFrom t sheet 0 (calls sheet) (bodiesBegin sheet)) out start (linesFrom s sheet 0 (n - 0) (1 + 4 * n)) out start
-unfolding bodiesBegin
-come-begin sheet out start n s t e q = rw (sub-zero n, e, q) (record { bytes = refl; behind = refl })
+pub come-begin : (sheet out : List ℕ) (start n : ℕ) (s : Store) → n ≡ calls sheet → s ≡ benchStore
+    → ToCome (linesOf sheet) out start (linesFrom s sheet 0 (n - 0) (1 + 4 * n)) out start
+unfolding linesOf bodiesBegin
+come-begin sheet out start n s e q = rw (sub-zero n, e, q) (record { bytes = refl; behind = refl })
 
 lines-more : (s : Store) (sheet : List ℕ) (i m n at : ℕ) → n ≡ suc m
     → linesFrom s sheet i n at ≡ seenLine (i + 1) (step s (callAt sheet i at) .seen) ++ linesFrom (step s (callAt sheet i at) .store) sheet (i + 1) m (bodyEnd sheet i at)
@@ -148,8 +148,7 @@ come-done whole before out sheet start end i n at s h c =
 
 -- ---- what is printed
 
-pub printed-good : (sheet : List ℕ) → goodSheet sheet ≡ true
-    → heading ++ linesFrom (freshStore 8 2 (zeros 1024)) sheet 0 (calls sheet) (bodiesBegin sheet) ≡ printed sheet
+pub printed-good : (sheet : List ℕ) → goodSheet sheet ≡ true → heading ++ linesOf sheet ≡ printed sheet
 unfolding printed
 printed-good sheet e = rw e
 

@@ -1,14 +1,14 @@
 // The calls of a good sheet, one after the other on a store that is held here.
 ghost use mathlib.Core.Path.{_≡_};
 ghost use mathlib.Core.Bool.{true};
-ghost use Prim.Native.Nat.{suc, _+_, _*_, _≤_, _<_};
+ghost use Prim.Native.Nat.{_+_, _≤_, _<_};
 ghost use lib.ListN.{length};
 ghost use Rattle.fields.specs.Bytes.{zeros};
 ghost use Rattle.commands.specs.Step.{step};
-ghost use Rattle.commands.specs.Fresh.{freshStore, freshUnit};
+ghost use Rattle.commands.specs.Fresh.{freshUnit};
 ghost use Rattle.commands.specs.Contract.{storeOf};
-ghost use Rattle.sheet.specs.Sheet.{calls, bodyEnd, bodiesBegin, goodSheet, callAt};
-ghost use Rattle.sheet.specs.Printed.{seenLine, linesFrom};
+ghost use Rattle.sheet.specs.Sheet.{bodyEnd, goodSheet, callAt};
+ghost use Rattle.sheet.specs.Printed.{linesOf, Serves};
 ghost use Rattle.sheet.specs.Put.{Puts};
 use crate::contents;
 use crate::line;
@@ -32,7 +32,7 @@ fn serve(
     end: usize,
 ) -> Served
     requires { ⌜ (i < 32) × (bodyEnd (now sheet) i at ≤ length (now sheet)) × (length (now sheet) ≤ 65536) × (end + 90 ≤ length (now out)) ⌝ }
-    ensures { λ r. ⌜ (storeOf (r .unit) (now (owners .exit)) (now (medium .exit)) ≡ step (storeOf unit (now (owners .entry)) (now (medium .entry))) (callAt (now (sheet .entry)) i at) .store) × (Puts (seenLine (i + 1) (step (storeOf unit (now (owners .entry)) (now (medium .entry))) (callAt (now (sheet .entry)) i at) .seen)) (now (out .entry)) end (now (out .exit)) (r .end)) × (r .end ≤ end + 90) ⌝ }
+    ensures { λ r. ⌜ (Serves (i + 1) (step (storeOf unit (now (owners .entry)) (now (medium .entry))) (callAt (now (sheet .entry)) i at)) (storeOf (r .unit) (now (owners .exit)) (now (medium .exit))) (now (out .entry)) end (now (out .exit)) (r .end)) × (r .end ≤ end + 90) ⌝ }
 {
     let mut data_in = [0u8; 4096];
     let mut sense = [0u8; 18];
@@ -69,7 +69,7 @@ fn fresh_unit(owners: &mut [u64]) -> Unit
 // All calls on a fresh store; their lines are put from a place on.
 pub fn run_calls(sheet: &[u8], out: &mut [u8], start: usize) -> usize
     requires { ⌜ (goodSheet (now sheet) ≡ true) × (start + 2880 ≤ length (now out)) ⌝ }
-    ensures { λ r. ⌜ (Puts (linesFrom (freshStore 8 2 (zeros 1024)) (now (sheet .entry)) 0 (calls (now (sheet .entry))) (bodiesBegin (now (sheet .entry)))) (now (out .entry)) start (now (out .exit)) r) × (r ≤ start + 2880) ⌝ }
+    ensures { λ r. ⌜ (Puts (linesOf (now (sheet .entry))) (now (out .entry)) start (now (out .exit)) r) × (r ≤ start + 2880) ⌝ }
 {
     let mut owners = [0u64; 2];
     let mut medium = [0u8; 1024];

@@ -5,11 +5,9 @@ use Prim.Native.Nat.{_+_, _-_, _*_, _≤_}
 use native.Mathlib.Omega.{arith}
 use lib.ListN.{length}
 use borrow.Author.Needs.{needs}
-use Rattle.fields.specs.Bytes.{zeros}
 use Rattle.commands.specs.Contract.{storeOf}
-use Rattle.commands.specs.Fresh.{freshStore}
-use Rattle.sheet.specs.Printed.{linesFrom}
-use Rattle.sheet.specs.Sheet.{calls, bodiesEnd, bodiesBegin}
+use Rattle.sheet.specs.Printed.{linesFrom, linesOf}
+use Rattle.sheet.specs.Sheet.{bodiesEnd}
 use Rattle.sheet.proofs.CallLaws.{fresh-store, good-calls, good-length, body-begins, body-ends, bodies-begin, ToCome, come-begin, come-turn, come-done}
 use Rattle.sheet.proofs.Turns.{bodies-turn}
 use Rattle.sheet.proofs.calls.run_calls.Statement.{statement}
@@ -19,7 +17,7 @@ abbrev Inv-loop : tie.InvT-loop
 Inv-loop sheet out₀ start owners₀ medium₀ unit₀ end₀ n at₀ i₀ out owners medium unit end at i =
     (i ≤ n) × (length owners ≡ 2) × (length medium ≡ 1024) × (length out ≡ length out₀) × (end ≤ start + 90 * i)
     × (bodiesEnd sheet i (n - i) at ≡ length sheet)
-    × (ToCome (linesFrom (freshStore 8 2 (zeros 1024)) sheet 0 (calls sheet) (bodiesBegin sheet)) out₀ start (linesFrom (storeOf unit owners medium) sheet i (n - i) at) out end)
+    × (ToCome (linesOf sheet) out₀ start (linesFrom (storeOf unit owners medium) sheet i (n - i) at) out end)
 
 abbrev μ-loop : tie.MeasureT-loop
 μ-loop sheet out₀ start owners₀ medium₀ unit₀ end₀ n at₀ i₀ out owners medium unit end at i = n - i
@@ -49,7 +47,7 @@ loop-holds c =
       refl,
       omega arith,
       bodies-begin _ _ (c .before .before .before .before .before .before .pre .0) n,
-      come-begin _ _ _ _ _ _ n (fresh-store _ _ _ (u .0) (u .1) refl),
+      come-begin _ _ _ _ _ n (fresh-store _ _ _ (u .0) (u .1) refl),
     )
 
 slice-aggregate-serve : tie.Need-slice-aggregate-serve Inv-loop μ-loop
@@ -94,9 +92,9 @@ loop-again c =
       search needs,
       search needs,
       search needs,
-      omega (arith, l .loop .inv, s .2),
+      omega (arith, l .loop .inv, s .1),
       bodies-turn _ _ _ _ _ (b .loop-test .taken) e ∙ l .loop .inv .5,
-      come-turn _ _ _ _ _ _ _ _ _ _ _ _ _ _ (b .loop-test .taken) e (s .0) (s .1) (l .loop .inv .6),
+      come-turn _ _ _ _ _ _ _ _ _ _ _ _ _ _ (b .loop-test .taken) e (s .0 .left) (s .0 .line) (l .loop .inv .6),
     )
 
 same-length : tie.Need-same-length Inv-loop μ-loop

@@ -87,7 +87,7 @@ returns c =
     let q =
     call-is _ _ (l .before .before .before .before .before .before .before .args .at) _ _ _ (l .before .before .nexus-of .ensures) (l .before .cdb-length .ensures .0) (l .out-length .ensures .0) in
     let p = c .before .before .put-line .ensures in
-    (served-store _ _ _ _ e q, puts-as (served-line _ _ _ _ e q _) (p .0), omega (arith, p .1))
+    (record { left = served-store _ _ _ _ e q; line = puts-as (served-line _ _ _ _ e q _) (p .0) }, omega (arith, p .1))
 
 pub serve-spec : {M : Type 1} → statement M
 serve-spec =

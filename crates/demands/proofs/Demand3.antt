@@ -7,13 +7,12 @@ use Prim.Native.Nat.{ℕ, zero, suc}
 use lib.Dec.{T, eqb, eqb·suc-zero}
 use Rattle.fields.specs.Bytes.{zeros}
 use Rattle.fields.specs.Field.{byte}
-use Rattle.fields.proofs.Tests.{and-map, or-l, or-other, nor-l, not-not-intro, not-map, true→T, false→T}
+use Rattle.fields.proofs.Tests.{and-map, or-l, or-other, nor-l, not-not-intro, not-map, true→T, false→T, T-true}
 use Rattle.answers.specs.declared.Answer.{Answer}
 use Rattle.answers.specs.declared.Answer.the-variants.{Good, Refused, Conflict, Unusable, Short}
 use Rattle.answers.specs.Order.{first, ifGood}
 use Rattle.answers.proofs.OrderLaws.{refuses, row-stop, if-refused}
 use Rattle.map.specs.Valid.{slotsOk}
-use Rattle.map.proofs.Held.{T-true}
 use Rattle.map.proofs.Keeping.{poolOk-of, mapOk-zeros}
 use Rattle.reservations.specs.declared.Rights.{Rights}
 use Rattle.reservations.specs.declared.Access.{Access}

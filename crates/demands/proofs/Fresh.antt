@@ -6,6 +6,7 @@ use mathlib.Core.List.{List, [], _∷_}
 use Prim.Native.Nat.{ℕ, _*_}
 use lib.Dec.{T, eqb, ltb}
 use lib.ListN.{length}
+use Rattle.fields.proofs.Tests.{T-true}
 use Rattle.fields.specs.Bytes.{zeros}
 use Rattle.fields.proofs.BytesLaws.{length-zeros}
 use Rattle.answers.specs.declared.Answer.{Answer}
@@ -13,7 +14,6 @@ use Rattle.answers.specs.declared.Answer.the-variants.{Good, Unusable}
 use Rattle.answers.specs.Order.{_if_, first, next, ifGood}
 use Rattle.answers.proofs.OrderLaws.{row-stop}
 use Rattle.map.specs.Valid.{capacityOk, slotsOk}
-use Rattle.map.proofs.Held.{T-true}
 use Rattle.map.proofs.Keeping.{poolOk-of, mapOk-zeros}
 use Rattle.reservations.specs.Places.{used, registered}
 use Rattle.reservations.specs.Rights.{noRights, placeOk, placesApart, placesOk, stands, rightsOk}

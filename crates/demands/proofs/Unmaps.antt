@@ -7,10 +7,9 @@ use Prim.Native.Nat.{ℕ, zero, suc, _+_, _*_, _≤_, _<_}
 use native.Mathlib.Omega.{arith}
 use lib.Dec.{T, leb, ltb, leb→le, ltb→lt, le→leb, lt→ltb}
 use Rattle.fields.specs.Bytes.{zeros}
-use Rattle.fields.proofs.Tests.{and-l, and-r, both, or-l, or-r}
+use Rattle.fields.proofs.Tests.{and-l, and-r, both, or-l, or-r, by-test, T-true, T-false}
 use Rattle.answers.specs.declared.Answer.the-variants.{Good}
 use Rattle.map.specs.Pool.{Pool, readBlock, unmapOwners, unmapBlocks}
-use Rattle.map.proofs.Held.{by-test, T-true, T-false}
 use Rattle.map.proofs.Writing.{in-or-out}
 use Rattle.map.proofs.Reading.{unmap-in, unmap-out, reads-same, reads-zeros}
 use Rattle.descriptors.specs.declared.Descriptor.{Descriptor}

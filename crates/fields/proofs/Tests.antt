@@ -2,7 +2,9 @@
 -- Assumes nothing.
 use mathlib.Core.Path.{_≡_, refl, sym, ap, _∙_, subst}
 use mathlib.Core.Bool.{Bool, true, false, not, _&&_, _||_, cond, false≢true, true≢false}
+use mathlib.Core.Logic.{_≢_}
 use Prim.Native.Nat.{ℕ}
+use borrow.Author.Tests.{eqb-true, eqb-false}
 use lib.Dec.{T, eqb, leb, eqb→eq, eqb-refl, not-T, T-not}
 
 pub and-l : (a b : Bool) → T (a && b) → T a
@@ -84,3 +86,23 @@ false→T false e = tt
 pub test {ℓ} : {X : Type ℓ} (b : Bool) → (T b → X) → (T (not b) → X) → X
 test true f g = f tt
 test false f g = g tt
+
+-- two ways, at a test and at an equality, of what is said of the test
+pub by-test : (b : Bool) (P : Bool → Type 0) → (T b → P true) → (T (not b) → P false) → P b
+by-test true P f g = f tt
+by-test false P f g = g tt
+
+pub by-equal : (x y : ℕ) (P : Bool → Type 0) → (x ≡ y → P true) → (x ≢ y → P false) → P (eqb x y)
+by-equal x y P f g = go (eqb x y) refl
+  where
+    go : (b : Bool) → eqb x y ≡ b → P b
+    go true e = f (eqb-true x y e)
+    go false e = g (eqb-false x y e)
+
+pub T-true : (b : Bool) → T b → b ≡ true
+T-true true t = refl
+T-true false t = absurd t
+
+pub T-false : (b : Bool) → T (not b) → b ≡ false
+T-false true t = absurd t
+T-false false t = refl

@@ -15,11 +15,11 @@ use borrow.Author.Tests.{ne-eqb, lt-ltb, le-ltb}
 use borrow.Rule.Slice.PartMut.{putMid, post-is}
 use Rattle.fields.specs.Bytes.{part, put, zeros}
 use Rattle.fields.proofs.BytesLaws.{put-is, put-next, put-none, length-part, length-zeros}
-use Rattle.fields.proofs.Tests.{test, true→T}
+use Rattle.fields.proofs.Tests.{test, true→T, T-true, T-false, by-equal}
 use Rattle.map.specs.Pool.{place, has, mapped, free, unmapped, fill, assign, assignBlocks, putBlocks, readBlock, readBlocks}
 use Rattle.map.specs.Index.{places, slotBytes, readPlaces, putPlaces}
 use Rattle.map.specs.Write.{pool}
-use Rattle.map.proofs.Held.{T-true, T-false, by-equal, place-below, place-none, below-has, fill-set, has-free}
+use Rattle.map.proofs.Held.{place-below, place-none, below-has, fill-set, has-free}
 use Rattle.map.proofs.Keeping.{length-assign, length-assignBlocks}
 use Rattle.map.proofs.Writing.{free-assign, assign-mapped, unmapped-assign, mapped-write-in}
 use Rattle.map.proofs.Indexing.{places-at, places-fill}

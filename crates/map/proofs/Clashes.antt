@@ -10,13 +10,13 @@ use native.Mathlib.Omega.{arith}
 use native.Mathlib.Nat.{add-zero, add-suc, suc-add, zero-add}
 use lib.Dec.{T, leb, ltb, T-not, leb→le, le→leb, ltb→lt, nltb→le}
 use lib.ListN.{length, getD}
-use Rattle.fields.proofs.Tests.{and-l, and-r, both}
+use Rattle.fields.proofs.Tests.{and-l, and-r, both, by-test, by-equal}
 use Rattle.map.specs.Pool.{has, place}
 use Rattle.map.specs.Valid.{within, distinct, mapOk, slot, beyondFrom, againFrom, clashFrom, checked}
 use Rattle.map.specs.declared.Slot.{Slot}
 use Rattle.map.specs.declared.Checked.{Checked}
 use Rattle.map.specs.declared.Checked.the-variants.{Valid, Beyond, Clash}
-use Rattle.map.proofs.Held.{by-test, by-equal, at-has, place-at, place-below, place-lowest}
+use Rattle.map.proofs.Held.{at-has, place-at, place-below, place-lowest}
 use Rattle.map.proofs.Keeping.{mapOk-within, mapOk-distinct, mapOk-of, distinct-head, distinct-tail, distinct-more}
 
 -- slot i is the lowest whose owner number is above the capacity

@@ -10,28 +10,8 @@ use borrow.Author.Tests.{eqb-true, eqb-false, ne-eqb}
 use lib.Dec.{T, eqb, leb, ltb, eqb-refl, leb→le, nleb→lt, ltb→lt, nltb→le}
 use lib.ListN.{length, getD, set}
 use Rattle.fields.specs.Bytes.{zeros}
-use Rattle.fields.proofs.Tests.{or-l, or-r, nor-l, nor-r, test}
+use Rattle.fields.proofs.Tests.{or-l, or-r, nor-l, nor-r, test, by-test, by-equal, T-true, T-false}
 use Rattle.map.specs.Pool.{place, has, free, fill, freed}
-
--- two ways, at a test and at an equality, of what is said of the test
-pub by-test : (b : Bool) (P : Bool → Type 0) → (T b → P true) → (T (not b) → P false) → P b
-by-test true P f g = f tt
-by-test false P f g = g tt
-
-pub by-equal : (x y : ℕ) (P : Bool → Type 0) → (x ≡ y → P true) → (x ≢ y → P false) → P (eqb x y)
-by-equal x y P f g = go (eqb x y) refl
-  where
-    go : (b : Bool) → eqb x y ≡ b → P b
-    go true e = f (eqb-true x y e)
-    go false e = g (eqb-false x y e)
-
-pub T-true : (b : Bool) → T b → b ≡ true
-T-true true t = refl
-T-true false t = absurd t
-
-pub T-false : (b : Bool) → T (not b) → b ≡ false
-T-false true t = absurd t
-T-false false t = refl
 
 -- ---- places
 

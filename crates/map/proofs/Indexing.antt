@@ -12,10 +12,10 @@ use lib.Dec.{T, eqb}
 use lib.ListN.{length, getD, take, drop, set, replicate, drop-of-length-le}
 use lib.Seq.{drop-cons}
 use borrow.Author.Tests.{eq-eqb, ne-eqb}
-use Rattle.fields.proofs.Tests.{test}
+use Rattle.fields.proofs.Tests.{test, T-true, T-false}
 use Rattle.map.specs.Pool.{place, has, mapped, unmapped, fill}
 use Rattle.map.specs.Index.{places, missing}
-use Rattle.map.proofs.Held.{T-true, T-false, place-below, place-none, place-fill, place-fill-other}
+use Rattle.map.proofs.Held.{place-below, place-none, place-fill, place-fill-other}
 
 -- ---- the places of a range
 

@@ -11,10 +11,10 @@ use lib.Dec.{T, eqb, leb, eqb→eq, le→leb, eqb-refl}
 use lib.ListN.{length, take, drop, length-map}
 use Rattle.fields.specs.Bytes.{put, zeros}
 use Rattle.fields.proofs.BytesLaws.{length-put, length-zeros}
-use Rattle.fields.proofs.Tests.{and-l, and-r, both, or-other, nor-r, false→T}
+use Rattle.fields.proofs.Tests.{and-l, and-r, both, or-other, nor-r, false→T, by-test, by-equal}
 use Rattle.map.specs.Pool.{Pool, place, has, mapped, fill, assign, assignBlocks, putBlocks, writeBlocks, freed, unmapOwners, unmapBlocks}
 use Rattle.map.specs.Valid.{within, distinct, mapOk, slotsOk, poolOk}
-use Rattle.map.proofs.Held.{by-test, by-equal, length-fill, has-fill-other, freed-ways}
+use Rattle.map.proofs.Held.{length-fill, has-fill-other, freed-ways}
 
 -- ---- lengths
 

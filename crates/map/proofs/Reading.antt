@@ -11,9 +11,9 @@ use lib.ListN.{length, take, drop, length-append}
 use lib.Seq.{take-add, drop-drop}
 use Rattle.fields.specs.Bytes.{part, zeros}
 use Rattle.fields.proofs.BytesLaws.{length-part, length-zeros, zeros-add}
-use Rattle.fields.proofs.Tests.{test, true→T}
+use Rattle.fields.proofs.Tests.{test, true→T, T-true, T-false}
 use Rattle.map.specs.Pool.{Pool, place, mapped, free, unmapped, readBlock, readBlocks, assignBlocks, writeBlocks, unmapBlocks}
-use Rattle.map.proofs.Held.{T-true, T-false, place-below, places-apart, all-free, free-zeros}
+use Rattle.map.proofs.Held.{place-below, places-apart, all-free, free-zeros}
 use Rattle.map.proofs.Keeping.{length-assignBlocks}
 use Rattle.map.proofs.Writing.{mapped-write-in, mapped-write-out, place-write-out, put-in, put-out, next-block}
 use Rattle.map.proofs.Unmapping.{mapped-unmap-in, mapped-unmap-out, place-unmapped-out}

@@ -9,9 +9,10 @@ use Prim.Native.Nat.{ℕ, zero, suc, _+_, _≤_, _<_}
 use native.Mathlib.Omega.{arith}
 use borrow.Author.Tests.{ne-eqb}
 use lib.Dec.{T, eqb}
+use Rattle.fields.proofs.Tests.{by-equal, T-false}
 use Rattle.map.specs.Pool.{place, has, mapped, free, unmapped, freed, unmapOwners}
 use Rattle.map.specs.Valid.{distinct}
-use Rattle.map.proofs.Held.{by-equal, T-false, freed-ways}
+use Rattle.map.proofs.Held.{freed-ways}
 use Rattle.map.proofs.Keeping.{distinct-head, distinct-tail}
 
 -- ---- owner numbers

@@ -13,9 +13,9 @@ use lib.ListN.{length, take, drop, length-take, length-drop}
 use lib.Seq.{drop-drop}
 use Rattle.fields.specs.Bytes.{part, put}
 use Rattle.fields.proofs.BytesLaws.{length-put, part-put-same, part-put-before, part-put-behind}
-use Rattle.fields.proofs.Tests.{test}
+use Rattle.fields.proofs.Tests.{test, by-test, by-equal, T-true, T-false}
 use Rattle.map.specs.Pool.{place, has, mapped, free, unmapped, fill, assign, assignBlocks, putBlocks}
-use Rattle.map.proofs.Held.{by-test, by-equal, T-true, T-false, place-below, places-apart, has-fill, has-fill-other, place-fill, place-fill-other, has-free, free-fill}
+use Rattle.map.proofs.Held.{place-below, places-apart, has-fill, has-fill-other, place-fill, place-fill-other, has-free, free-fill}
 
 -- two ways: the block b is one of the n from a on, or outside
 pub in-or-out : {X : Type 0} (a n b : ℕ) → ((i : ℕ) → i < n → b ≡ a + i → X) → ((a ≤ b → a + n ≤ b) → X) → X

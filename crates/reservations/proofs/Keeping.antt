@@ -6,7 +6,7 @@ use mathlib.Core.List.{List, [], _∷_, map}
 use Prim.Native.Nat.{ℕ, suc, _≤_}
 use lib.Dec.{T, eqb, leb, eqb→eq, eqb-refl, le→leb, T-not}
 use lib.ListN.{length, length-map}
-use Rattle.fields.proofs.Tests.{and-l, and-r, both, or-l, or-r, or-map, or-map², and-map, nor-l, nor-r, nor, not-map, not-not, nand-rest, true→T, false→T}
+use Rattle.fields.proofs.Tests.{and-l, and-r, both, or-l, or-r, or-map, or-map², and-map, nor-l, nor-r, nor, not-map, not-not, nand-rest, true→T, false→T, by-test}
 use Rattle.answers.specs.declared.Answer.the-variants.{Good, Conflict}
 use Rattle.answers.specs.Answers.{listField}
 use Rattle.answers.specs.Order.{first}
@@ -19,11 +19,6 @@ use Rattle.reservations.specs.declared.Action.the-variants.{Register, Re
 use Rattle.reservations.specs.Places.{unused, used, isOf, registered, somebody, keyOf, enrol, rekeyed, Spared, nobody, sender, spares, without}
 use Rattle.reservations.specs.Rights.{isOneOf, isType, oneHolds, allHold, holds, placeOk, placesApart, placesOk, stands, rightsOk, held, ended, withPlaces, settled, raised}
 use Rattle.reservations.specs.Actions.{stranger, keyWrong, orderRows, registering, reserving, releasing, clearing, holdersKey, preempting, acted}
-
--- a test by its two ways
-ways : (b : Bool) (P : Bool → Type 0) → (T b → P true) → (T (not b) → P false) → P b
-ways true P f g = f tt
-ways false P f g = g tt
 
 -- ---- what validity says of places
 
@@ -41,11 +36,11 @@ isOf-of n p u e = both (used p) (eqb (p .nexus) n) u (rw e (eqb-refl n))
 
 used-small : (p : Place) → T (placeOk p) → T (used p) → T (leb (p .nexus) 15)
 unfolding placeOk
-used-small p t u = ways (used p) (λ b. T b → T (cond b (leb (p .nexus) 15) (eqb (p .nexus) 0)) → T (leb (p .nexus) 15)) (λ h x y. y) (λ h x y. absurd x) u t
+used-small p t u = by-test (used p) (λ b. T b → T (cond b (leb (p .nexus) 15) (eqb (p .nexus) 0)) → T (leb (p .nexus) 15)) (λ h x y. y) (λ h x y. absurd x) u t
 
 small-ok : (p : Place) → T (used p) → T (leb (p .nexus) 15) → T (placeOk p)
 unfolding placeOk
-small-ok p u t = ways (used p) (λ b. T b → T (cond b (leb (p .nexus) 15) (eqb (p .nexus) 0))) (λ h x. t) (λ h x. absurd x) u
+small-ok p u t = by-test (used p) (λ b. T b → T (cond b (leb (p .nexus) 15) (eqb (p .nexus) 0))) (λ h x. t) (λ h x. absurd x) u
 
 module _ (p : Place) (ps : List Place) where
   apart-ok : T (placesApart (p ∷ ps)) → T (placeOk p)
@@ -68,7 +63,7 @@ module _ (p : Place) (ps : List Place) where
   apart-more k f t =
       both (placeOk p && not (used p && registered (p .nexus) ps)) (placesApart ps)
       (both (placeOk p) (not (used p && registered (p .nexus) ps)) k
-      (ways (used p) (λ b. (T b → T (not (registered (p .nexus) ps))) → T (not (b && registered (p .nexus) ps))) (λ h g. g tt) (λ h g. tt) f)) t
+      (by-test (used p) (λ b. (T b → T (not (registered (p .nexus) ps))) → T (not (b && registered (p .nexus) ps))) (λ h g. g tt) (λ h g. tt) f)) t
 
 places-eight : (ps : List Place) → T (placesOk ps) → T (eqb (length ps) 8)
 unfolding placesOk
@@ -133,14 +128,14 @@ module _ (g : Place → Place) (thin : (p : Place) → Thin p (g p)) where
 rekeyed-thin : (n k : ℕ) (p : Place) → Thin p (rekeyed n k p)
 unfolding rekeyed
 rekeyed-thin n k p =
-    ways (isOf n p) (λ b. Thin p (cond b (cond (eqb k 0) unused (record { nexus = n; key = k })) p))
-    (λ t. ways (eqb k 0) (λ z. Thin p (cond z unused (record { nexus = n; key = k }))) (λ z. thin-unused p) (λ z. thin-key n k p t z))
+    by-test (isOf n p) (λ b. Thin p (cond b (cond (eqb k 0) unused (record { nexus = n; key = k })) p))
+    (λ t. by-test (eqb k 0) (λ z. Thin p (cond z unused (record { nexus = n; key = k }))) (λ z. thin-unused p) (λ z. thin-key n k p t z))
     (λ t. thin-same p)
 
 without-thin : (s : Spared) (k : ℕ) (p : Place) → Thin p (without s k p)
 unfolding without
 without-thin s k p =
-    ways (eqb (p .key) k && not (spares s p)) (λ b. Thin p (cond b unused p)) (λ t. thin-unused p) (λ t. thin-same p)
+    by-test (eqb (p .key) k && not (spares s p)) (λ b. Thin p (cond b unused p)) (λ t. thin-unused p) (λ t. thin-same p)
 
 -- ---- a new registration
 
@@ -148,7 +143,7 @@ enrol-length : (n k : ℕ) (ps : List Place) → length (enrol n k ps) ≡ lengt
 unfolding enrol
 enrol-length n k [] = refl
 enrol-length n k (p ∷ ps) =
-    ways (used p) (λ b. length (cond b (p ∷ enrol n k ps) (record { nexus = n; key = k } ∷ ps)) ≡ suc (length ps))
+    by-test (used p) (λ b. length (cond b (p ∷ enrol n k ps) (record { nexus = n; key = k } ∷ ps)) ≡ suc (length ps))
     (λ u. ap suc (enrol-length n k ps)) (λ u. refl)
 
 -- nobody else comes
@@ -156,7 +151,7 @@ enrol-others : (n k m : ℕ) (ps : List Place) → T (not (eqb n m)) → T (not 
 unfolding enrol registered
 enrol-others n k m [] d t = t
 enrol-others n k m (p ∷ ps) d t =
-    ways (used p) (λ b. T (not (registered m (cond b (p ∷ enrol n k ps) (record { nexus = n; key = k } ∷ ps)))))
+    by-test (used p) (λ b. T (not (registered m (cond b (p ∷ enrol n k ps) (record { nexus = n; key = k } ∷ ps)))))
     (λ u. nor (isOf m p) (registered m (enrol n k ps)) (nor-l (isOf m p) (registered m ps) t)
     (enrol-others n k m ps d (nor-r (isOf m p) (registered m ps) t)))
     (λ u. nor (isOf m (record { nexus = n; key = k })) (registered m ps)
@@ -168,7 +163,7 @@ module _ (n k : ℕ) (small : T (leb n 15)) (some : T (not (eqb k 0))) where
   unfolding enrol registered
   enrol-apart [] f t = t
   enrol-apart (p ∷ ps) f t =
-      ways (used p) (λ b. T (placesApart (cond b (p ∷ enrol n k ps) (record { nexus = n; key = k } ∷ ps))))
+      by-test (used p) (λ b. T (placesApart (cond b (p ∷ enrol n k ps) (record { nexus = n; key = k } ∷ ps))))
       (λ u. apart-more p (enrol n k ps) (apart-ok p ps t)
       (λ u. enrol-others n k (p .nexus) ps (other p ps f u) (apart-others p ps t u))
       (enrol-apart ps (nor-r (isOf n p) (registered n ps) f) (apart-rest p ps t)))
@@ -186,7 +181,7 @@ enrol-stays : (n k m : ℕ) (ps : List Place) → T (registered m ps) → T (reg
 unfolding enrol registered
 enrol-stays n k m [] t = t
 enrol-stays n k m (p ∷ ps) t =
-    ways (used p) (λ b. T (registered m (cond b (p ∷ enrol n k ps) (record { nexus = n; key = k } ∷ ps))))
+    by-test (used p) (λ b. T (registered m (cond b (p ∷ enrol n k ps) (record { nexus = n; key = k } ∷ ps))))
     (λ u. or-map (isOf m p) (registered m ps) (registered m (enrol n k ps)) (enrol-stays n k m ps) t)
     (λ u. or-map² (isOf m p) (isOf m (record { nexus = n; key = k })) (registered m ps) (registered m ps)
     (λ h. absurd (T-not (used p) u (isOf-used m p h))) (λ x. x) t)
@@ -195,7 +190,7 @@ enrol-somebody : (n k : ℕ) (ps : List Place) → T (not (eqb k 0)) → T (some
 unfolding enrol somebody
 enrol-somebody n k [] h t = t
 enrol-somebody n k (p ∷ ps) h t =
-    ways (used p) (λ b. T (somebody (cond b (p ∷ enrol n k ps) (record { nexus = n; key = k } ∷ ps))))
+    by-test (used p) (λ b. T (somebody (cond b (p ∷ enrol n k ps) (record { nexus = n; key = k } ∷ ps))))
     (λ u. or-l (used p) (somebody (enrol n k ps)) u)
     (λ u. or-l (used (record { nexus = n; key = k })) (somebody ps) (used-key n k h))
 
@@ -235,7 +230,7 @@ ended-ok r t = rights-of (ended r) t tt
 settled-ok : (r : Rights) → T (placesOk (r .places)) → T (rightsOk (settled r))
 unfolding settled
 settled-ok r t =
-    ways (stands (r .places) (r .kind) (r .holder)) (λ b. T (rightsOk (cond b r (ended r)))) (λ s. rights-of r t s) (λ s. ended-ok r t)
+    by-test (stands (r .places) (r .kind) (r .holder)) (λ b. T (rightsOk (cond b r (ended r)))) (λ s. rights-of r t s) (λ s. ended-ok r t)
 
 registered-somebody : (n : ℕ) (ps : List Place) → T (registered n ps) → T (somebody ps)
 unfolding registered somebody
@@ -259,7 +254,7 @@ type-one kind t n = first-four (eqb kind 1) (eqb kind 3) (eqb kind 5) (eqb kind 
 held-stands : (ps : List Place) (kind n : ℕ) → T (isType kind) → T (registered n ps) → T (stands ps kind (cond (allHold kind) 0 n))
 unfolding stands
 held-stands ps kind n k u =
-    ways (allHold kind) (λ b. allHold kind ≡ b → T (stands ps kind (cond b 0 n)))
+    by-test (allHold kind) (λ b. allHold kind ≡ b → T (stands ps kind (cond b 0 n)))
     (λ a e. or-r (eqb kind 0 && true || (oneHolds kind && registered 0 ps)) (allHold kind && true && somebody ps)
     (both (allHold kind && true) (somebody ps) (both (allHold kind) true (true→T _ e) tt) (registered-somebody n ps u)))
     (λ a e. or-l (eqb kind 0 && eqb n 0 || (oneHolds kind && registered n ps)) (allHold kind && eqb n 0 && somebody ps)
@@ -274,10 +269,10 @@ held-ok r kind n k u t = rights-of (held r kind n) t (held-stands (r .places) ki
 registering-ok : (r : Rights) (n k : ℕ) → T (leb n 15) → T (rightsOk r) → T (rightsOk (registering r n k))
 unfolding registering withPlaces
 registering-ok r n k small t =
-    ways (registered n (r .places))
+    by-test (registered n (r .places))
     (λ b. T (rightsOk (cond b (raised (settled (withPlaces r (map (rekeyed n k) (r .places))))) (cond (eqb k 0) r (raised (withPlaces r (enrol n k (r .places))))))))
     (λ u. raised-ok _ (settled-ok _ (rekeyed-places (rights-places r t))))
-    (λ u. ways (eqb k 0) (λ z. T (rightsOk (cond z r (raised (withPlaces r (enrol n k (r .places)))))))
+    (λ u. by-test (eqb k 0) (λ z. T (rightsOk (cond z r (raised (withPlaces r (enrol n k (r .places)))))))
     (λ z. t) (λ z. raised-ok _ (enrolled u z)))
   where
     rekeyed-places : T (placesOk (r .places)) → T (placesOk (withPlaces r (map (rekeyed n k) (r .places)) .places))
@@ -291,11 +286,11 @@ registering-ok r n k small t =
 reserving-ok : (r : Rights) (n kind : ℕ) → T (isType kind) → T (registered n (r .places)) → T (rightsOk r) → T (rightsOk (reserving r n kind))
 unfolding reserving
 reserving-ok r n kind k u t =
-    ways (eqb (r .kind) 0) (λ b. T (rightsOk (cond b (held r kind n) r))) (λ z. held-ok r kind n k u (rights-places r t)) (λ z. t)
+    by-test (eqb (r .kind) 0) (λ b. T (rightsOk (cond b (held r kind n) r))) (λ z. held-ok r kind n k u (rights-places r t)) (λ z. t)
 
 releasing-ok : (r : Rights) (n : ℕ) → T (rightsOk r) → T (rightsOk (releasing r n))
 unfolding releasing
-releasing-ok r n t = ways (holds r n) (λ b. T (rightsOk (cond b (ended r) r))) (λ h. ended-ok r (rights-places r t)) (λ h. t)
+releasing-ok r n t = by-test (holds r n) (λ b. T (rightsOk (cond b (ended r) r))) (λ h. ended-ok r (rights-places r t)) (λ h. t)
 
 clearing-ok : (r : Rights) → T (rightsOk r) → T (rightsOk (clearing r))
 unfolding clearing withPlaces
@@ -305,7 +300,7 @@ clearing-ok r t = raised-ok _ (ended-ok _ (thin-places (λ p. unused) thin-unuse
 kept-place : (k n : ℕ) (p : Place) → p .nexus ≡ n → without (sender n) k p ≡ p
 unfolding without spares
 kept-place k n p e =
-    ways (eqb (p .nexus) n) (λ b. T b → cond (eqb (p .key) k && not b) unused p ≡ p) (λ h x. both-ways (eqb (p .key) k)) (λ h x. absurd x) (rw e (eqb-refl n))
+    by-test (eqb (p .nexus) n) (λ b. T b → cond (eqb (p .key) k && not b) unused p ≡ p) (λ h x. both-ways (eqb (p .key) k)) (λ h x. absurd x) (rw e (eqb-refl n))
   where
     both-ways : (b : Bool) → cond (b && false) unused p ≡ p
     both-ways true = refl
@@ -323,7 +318,7 @@ spared k n (p ∷ ps) t =
 preempting-ok : (r : Rights) (n kind k : ℕ) → T (isType kind) → T (registered n (r .places)) → T (rightsOk r) → T (rightsOk (preempting r n kind k))
 unfolding preempting withPlaces
 preempting-ok r n kind k s u t =
-    ways (holdersKey r k)
+    by-test (holdersKey r k)
     (λ b. T (rightsOk (cond b (raised (held (withPlaces r (map (without (sender n) k) (r .places))) kind n))
     (raised (settled (withPlaces r (map (without nobody k) (r .places))))))))
     (λ h. raised-ok _ (held-ok _ kind n s (spared k n (r .places) u) (left (sender n))))

@@ -4,3 +4,4 @@ pub mod ReadyLaws
 pub mod TellLaws
 pub mod MoveLaws
 pub mod FreshLaws
+pub mod Only

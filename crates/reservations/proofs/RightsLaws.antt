@@ -1,11 +1,13 @@
--- The types exclude one another.
+-- The types exclude one another; with none, only the holder field counts.
 -- Assumes nothing.
 use mathlib.Core.Path.{_≡_, refl, sym, ap, _∙_}
-use mathlib.Core.Bool.{Bool, true, false, true≢false}
+use mathlib.Core.Bool.{Bool, true, false, true≢false, or-false}
 use Prim.Native.Nat.{ℕ}
 use lib.Dec.{eqb}
 use borrow.Author.Tests.{ne-eqb}
-use Rattle.reservations.specs.Rights.{isOneOf, oneHolds, allHold}
+use mathlib.Core.List.{List}
+use Rattle.reservations.specs.declared.Place.{Place}
+use Rattle.reservations.specs.Rights.{isOneOf, oneHolds, allHold, stands}
 
 -- what passes a test is nothing that fails it
 differs : (q : ℕ → Bool) (kind k : ℕ) → q kind ≡ true → q k ≡ false → eqb kind k ≡ false
@@ -23,3 +25,8 @@ module _ (kind : ℕ) where
   pub one-not-all : oneHolds kind ≡ true → allHold kind ≡ false
   unfolding oneHolds allHold isOneOf
   one-not-all e = simp (differs oneHolds kind 7 e refl, differs oneHolds kind 8 e refl)
+
+-- "with no reservation, holder and type are 0"
+pub stands-none : (ps : List Place) (kind holder : ℕ) → kind ≡ 0 → stands ps kind holder ≡ eqb holder 0
+unfolding stands oneHolds allHold isOneOf
+stands-none ps kind holder e = rw (e, or-false, or-false)

@@ -58,6 +58,10 @@ pub fn valid(rights: Rights) -> bool
     if !places::apart(places) {
         return false;
     }
+    // most stores have no reservation, and need no look at the places for it
+    if rights.kind == 0 {
+        return rights.holder == 0;
+    }
     stands(places, rights.kind, rights.holder)
 }
 

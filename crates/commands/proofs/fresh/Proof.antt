@@ -7,22 +7,22 @@ use Rattle.commands.proofs.fresh.Statement.{statement}
 use Rattle.commands.proofs.fresh.Tie as tie
 
 none-requires : tie.Need-none-requires
-none-requires c κs = search needs
+none-requires c κs = tt
 
 capacity-ok-requires : tie.Need-capacity-ok-requires
-capacity-ok-requires c κs = search needs
+capacity-ok-requires c κs = tt
 
 returns : tie.Need-returns
 returns c = fresh-capacity _ _ _ (c .before .before .none .ensures) (sym (c .before .capacity-ok .ensures) ∙ not-true _ (c .if1 .taken))
 
 slots-ok-requires : tie.Need-slots-ok-requires
-slots-ok-requires c κs = search needs
+slots-ok-requires c κs = tt
 
 returns-2 : tie.Need-returns-2
 returns-2 c = fresh-slots _ _ _ (c .before .before .before .before .none .ensures) (sym (c .before .before .before .capacity-ok .ensures) ∙ not-false _ (c .before .before .if1 .left)) (sym (c .before .slots-ok .ensures) ∙ not-true _ (c .if2 .taken))
 
 free-all-requires : tie.Need-free-all-requires
-free-all-requires c κs = search needs
+free-all-requires c κs = tt
 
 same-length : tie.Need-same-length
 same-length c = search needs

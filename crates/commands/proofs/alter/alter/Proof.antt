@@ -9,7 +9,7 @@ size-requires : tie.Need-size-requires
 size-requires c κs = search needs
 
 list-length-requires : tie.Need-list-length-requires
-list-length-requires c κs = search needs
+list-length-requires c κs = tt
 
 returns : tie.Need-returns
 returns c = alter-length _ _ _ _ _ (c .before .before .size .ensures .0) _ (c .list-length .ensures) (c .before .if1 .taken)
@@ -18,10 +18,10 @@ returns-2 : tie.Need-returns-2
 returns-2 c = alter-short _ _ _ _ _ (c .before .before .size .ensures .0) (c .before .if1 .left) (c .if2 .taken)
 
 order-of-requires : tie.Need-order-of-requires
-order-of-requires c κs = search needs
+order-of-requires c κs = tt
 
 decide-requires : tie.Need-decide-requires
-decide-requires c κs = search needs
+decide-requires c κs = tt
 
 returns-3 : tie.Need-returns-3
 returns-3 c = (c .decide .ensures) ∙ rw (c .before .order-of .ensures) (alter-decided _ _ _ _ _ (c .before .before .before .before .size .ensures .0) (c .before .before .before .if1 .left) (c .before .before .if2 .left))

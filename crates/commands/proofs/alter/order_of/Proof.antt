@@ -5,7 +5,7 @@ use Rattle.commands.proofs.alter.order_of.Statement.{statement}
 use Rattle.commands.proofs.alter.order_of.Tie as tie
 
 byte-requires : tie.Need-byte-requires
-byte-requires c κs = search needs
+byte-requires c κs = tt
 
 number-requires : tie.Need-number-requires
 number-requires c κs = search needs
@@ -14,10 +14,10 @@ number-requires-2 : tie.Need-number-requires-2
 number-requires-2 c κs = search needs
 
 byte-requires-2 : tie.Need-byte-requires-2
-byte-requires-2 c κs = search needs
+byte-requires-2 c κs = tt
 
 flagged-requires : tie.Need-flagged-requires
-flagged-requires c κs = search needs
+flagged-requires c κs = tt
 
 returns : tie.Need-returns
 unfolding orderOf

@@ -8,13 +8,13 @@ sub-shown : tie.Need-sub-shown
 sub-shown c = search needs
 
 shown-requires : tie.Need-shown-requires
-shown-requires c κs = search needs
+shown-requires c κs = tt
 
 cast-bytes4 : tie.Need-cast-bytes4
 cast-bytes4 c = search needs
 
 bytes4-requires : tie.Need-bytes4-requires
-bytes4-requires c κs = search needs
+bytes4-requires c κs = tt
 
 array-read-t9 : tie.Need-array-read-t9
 array-read-t9 c = search needs

@@ -9,7 +9,7 @@ sub-bytes8 : tie.Need-sub-bytes8
 sub-bytes8 c = search needs
 
 bytes8-requires : tie.Need-bytes8-requires
-bytes8-requires c κs = search needs
+bytes8-requires c κs = tt
 
 array-read-t7 : tie.Need-array-read-t7
 array-read-t7 c = search needs

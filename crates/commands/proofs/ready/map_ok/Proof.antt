@@ -6,7 +6,7 @@ use Rattle.commands.proofs.ready.map_ok.Statement.{statement}
 use Rattle.commands.proofs.ready.map_ok.Tie as tie
 
 check-requires : tie.Need-check-requires
-check-requires c κs = search needs
+check-requires c κs = tt
 
 enum-told : tie.Need-enum-told
 enum-told c = search needs

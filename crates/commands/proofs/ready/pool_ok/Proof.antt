@@ -2,13 +2,12 @@
 use mathlib.Core.Path.{sym, _∙_}
 use native.Mathlib.Omega.{arith}
 use borrow.Author.Tests.{not-true, not-false, ne-eqb, eq-eqb}
-use borrow.Author.Needs.{needs}
 use Rattle.commands.proofs.ReadyLaws.{slots-few, pool-slots, pool-torn, pool-rest}
 use Rattle.commands.proofs.ready.pool_ok.Statement.{statement}
 use Rattle.commands.proofs.ready.pool_ok.Tie as tie
 
 slots-ok-requires : tie.Need-slots-ok-requires
-slots-ok-requires c κs = search needs
+slots-ok-requires c κs = tt
 
 returns : tie.Need-returns
 returns c = pool-slots _ _ _ (sym (c .before .slots-ok .ensures) ∙ not-true _ (c .if1 .taken))
@@ -20,7 +19,7 @@ returns-2 : tie.Need-returns-2
 returns-2 c = pool-torn _ _ _ (ne-eqb _ _ (c .if2 .taken))
 
 map-ok-requires : tie.Need-map-ok-requires
-map-ok-requires c κs = search needs
+map-ok-requires c κs = tt
 
 returns-3 : tie.Need-returns-3
 returns-3 c = (c .map-ok .ensures) ∙ pool-rest _ _ _ (sym (c .before .before .before .slots-ok .ensures) ∙ not-false _ (c .before .before .if1 .left)) (eq-eqb _ _ (c .before .if2 .left))

@@ -1,7 +1,6 @@
 -- `commands::ready::ready` meets its contract. Assumes nothing.
 use mathlib.Core.Path.{sym, _∙_}
 use borrow.Author.Tests.{not-true, not-false, ne-eqb, eq-eqb, lt-ltb, le-ltb}
-use borrow.Author.Needs.{needs}
 use Rattle.commands.proofs.ReadyLaws.{ready-nexus, ready-empty, ready-short, ready-unit, ready-rest}
 use Rattle.commands.proofs.ready.ready.Statement.{statement}
 use Rattle.commands.proofs.ready.ready.Tie as tie
@@ -16,13 +15,13 @@ returns-3 : tie.Need-returns-3
 returns-3 c = ready-short _ _ (lt-ltb _ _ (c .if3 .taken))
 
 unit-ok-requires : tie.Need-unit-ok-requires
-unit-ok-requires c κs = search needs
+unit-ok-requires c κs = tt
 
 returns-4 : tie.Need-returns-4
 returns-4 c = ready-unit _ _ (sym (c .before .unit-ok .ensures) ∙ not-true _ (c .if4 .taken))
 
 pool-ok-requires : tie.Need-pool-ok-requires
-pool-ok-requires c κs = search needs
+pool-ok-requires c κs = tt
 
 returns-5 : tie.Need-returns-5
 returns-5 c = (c .pool-ok .ensures) ∙ ready-rest _ _ (le-ltb _ _ (c .before .before .before .before .before .if1 .left)) (ne-eqb _ _ (c .before .before .before .before .if2 .left)) (le-ltb _ _ (c .before .before .before .if3 .left)) (sym (c .before .before .unit-ok .ensures) ∙ not-false _ (c .before .if4 .left))

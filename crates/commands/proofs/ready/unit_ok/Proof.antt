@@ -1,19 +1,18 @@
 -- `commands::ready::unit_ok` meets its contract. Assumes nothing.
 use mathlib.Core.Path.{sym, _∙_}
 use borrow.Author.Tests.{not-true, not-false}
-use borrow.Author.Needs.{needs}
 use Rattle.commands.proofs.ReadyLaws.{unit-bad, unit-rest}
 use Rattle.commands.proofs.ready.unit_ok.Statement.{statement}
 use Rattle.commands.proofs.ready.unit_ok.Tie as tie
 
 capacity-ok-requires : tie.Need-capacity-ok-requires
-capacity-ok-requires c κs = search needs
+capacity-ok-requires c κs = tt
 
 returns : tie.Need-returns
 returns c = unit-bad _ (sym (c .before .capacity-ok .ensures) ∙ not-true _ (c .if1 .taken))
 
 valid-requires : tie.Need-valid-requires
-valid-requires c κs = search needs
+valid-requires c κs = tt
 
 returns-2 : tie.Need-returns-2
 returns-2 c = (c .valid .ensures) ∙ unit-rest _ (sym (c .before .before .before .capacity-ok .ensures) ∙ not-false _ (c .before .before .if1 .left))

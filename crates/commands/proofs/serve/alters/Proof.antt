@@ -7,7 +7,7 @@ alter-requires : tie.Need-alter-requires
 alter-requires c κs = search needs
 
 answered-requires : tie.Need-answered-requires
-answered-requires c κs = search needs
+answered-requires c κs = tt
 
 returns : tie.Need-returns
 returns c = rw (c .before .before .alter .ensures) at (c .answered .ensures)

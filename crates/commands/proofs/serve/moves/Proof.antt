@@ -1,18 +1,18 @@
 -- `commands::serve::moves` meets its contract. Assumes nothing.
-use mathlib.Core.Path.{sym, _∙_}
+use mathlib.Core.Path.{refl, sym, _∙_}
 use borrow.Author.Needs.{needs}
 use Rattle.commands.proofs.MoveLaws.{read-count, write-count, moves-conflict, moves-read, moves-write, moves-unmap}
 use Rattle.commands.proofs.serve.moves.Statement.{statement}
 use Rattle.commands.proofs.serve.moves.Tie as tie
 
 access-of-requires : tie.Need-access-of-requires
-access-of-requires c κs = search needs
+access-of-requires c κs = tt
 
 conflicts-requires : tie.Need-conflicts-requires
-conflicts-requires c κs = search needs
+conflicts-requires c κs = tt
 
 answered-requires : tie.Need-answered-requires
-answered-requires c κs = search needs
+answered-requires c κs = tt
 
 returns : tie.Need-returns
 returns c = rw (c .answered .ensures) (moves-conflict _ _ _ _ _ _ (rw (c .before .before .before .access-of .ensures) at (sym (c .before .before .conflicts .ensures) ∙ (c .before .if1 .taken))))
@@ -24,7 +24,7 @@ read-requires : tie.Need-read-requires
 read-requires c κs = ((c .before .before .before .before .before .before .before .before .before .before .before .before .before .before .pre .0), (c .before .before .before .before .before .before .before .before .before .before .before .before .before .before .pre .1), read-count _ _ (rw (c .before .before .before .enum-told .given .1) at (c .before .before .before .before .before .before .before .before .before .before .before .before .before .before .pre .2)))
 
 replied-requires : tie.Need-replied-requires
-replied-requires c κs = search needs
+replied-requires c κs = tt
 
 enum-told-2 : tie.Need-enum-told-2
 enum-told-2 c = search needs
@@ -33,7 +33,7 @@ write-requires : tie.Need-write-requires
 write-requires c κs = ((c .before .before .before .before .before .before .before .before .before .before .before .before .before .pre .0), (c .before .before .before .before .before .before .before .before .before .before .before .before .before .pre .1), write-count _ _ (rw (c .before .before .enum-told2 .given .1) at (c .before .before .before .before .before .before .before .before .before .before .before .before .before .pre .2)))
 
 answered-requires-2 : tie.Need-answered-requires-2
-answered-requires-2 c κs = search needs
+answered-requires-2 c κs = tt
 
 enum-told-3 : tie.Need-enum-told-3
 enum-told-3 c = search needs
@@ -42,13 +42,13 @@ unmap-requires : tie.Need-unmap-requires
 unmap-requires c κs = search needs
 
 answered-requires-3 : tie.Need-answered-requires-3
-answered-requires-3 c κs = search needs
+answered-requires-3 c κs = tt
 
 same-length : tie.Need-same-length
-same-length c = search needs
+same-length c = refl
 
 same-length-2 : tie.Need-same-length-2
-same-length-2 c = search needs
+same-length-2 c = refl
 
 same-length-3 : tie.Need-same-length-3
 same-length-3 c = search needs

@@ -7,7 +7,7 @@ use Rattle.commands.proofs.serve.serve.Statement.{statement}
 use Rattle.commands.proofs.serve.serve.Tie as tie
 
 form-of-requires : tie.Need-form-of-requires
-form-of-requires c κs = search needs
+form-of-requires c κs = tt
 
 refusal-requires : tie.Need-refusal-requires
 refusal-requires c κs = rw (c .form-of .ensures) (sound-of _)
@@ -16,7 +16,7 @@ enum-told : tie.Need-enum-told
 enum-told c = search needs
 
 answered-requires : tie.Need-answered-requires
-answered-requires c κs = search needs
+answered-requires c κs = tt
 
 returns : tie.Need-returns
 returns c = rw ((c .answered .ensures), ← (c .before .before .before .form-of .ensures)) (form-refused _ _ _ _ (c .before .before .refusal .ensures) (tag-refuses _ (c .before .match .keys2)))

@@ -14,7 +14,7 @@ enum-told-2 : tie.Need-enum-told-2
 enum-told-2 c = search needs
 
 inquiry-requires : tie.Need-inquiry-requires
-inquiry-requires c κs = search needs
+inquiry-requires c κs = tt
 
 slice-aggregate-give : tie.Need-slice-aggregate-give
 slice-aggregate-give c = search needs
@@ -50,7 +50,7 @@ enum-told-5 : tie.Need-enum-told-5
 enum-told-5 c = search needs
 
 keys-data-requires : tie.Need-keys-data-requires
-keys-data-requires c κs = search needs
+keys-data-requires c κs = tt
 
 array-share-prefix-bytes : tie.Need-array-share-prefix-bytes
 array-share-prefix-bytes c =
@@ -67,7 +67,7 @@ enum-told-6 : tie.Need-enum-told-6
 enum-told-6 c = search needs
 
 reservation-data-requires : tie.Need-reservation-data-requires
-reservation-data-requires c κs = search needs
+reservation-data-requires c κs = tt
 
 array-share-prefix-bytes-2 : tie.Need-array-share-prefix-bytes-2
 array-share-prefix-bytes-2 c =

@@ -13,10 +13,10 @@ size-requires : tie.Need-size-requires
 size-requires c κs = search needs
 
 past-end-requires : tie.Need-past-end-requires
-past-end-requires c κs = search needs
+past-end-requires c κs = tt
 
 out-of-range-requires : tie.Need-out-of-range-requires
-out-of-range-requires c κs = search needs
+out-of-range-requires c κs = tt
 
 returns : tie.Need-returns
 returns c = read-range _ _ _ _ _ (c .before .before .before .before .address .ensures) (c .before .before .before .size .ensures .0) _ _ _ (c .out-of-range .ensures) (sym (c .before .before .past-end .ensures) ∙ (c .before .if1 .taken))

@@ -13,10 +13,10 @@ size-requires : tie.Need-size-requires
 size-requires c κs = search needs
 
 past-end-requires : tie.Need-past-end-requires
-past-end-requires c κs = search needs
+past-end-requires c κs = tt
 
 out-of-range-requires : tie.Need-out-of-range-requires
-out-of-range-requires c κs = search needs
+out-of-range-requires c κs = tt
 
 returns : tie.Need-returns
 returns c = write-range _ _ _ _ _ (c .before .before .before .before .address .ensures) (c .before .before .before .size .ensures .0) _ _ _ (c .out-of-range .ensures) (sym (c .before .before .past-end .ensures) ∙ (c .before .if1 .taken))
@@ -32,7 +32,7 @@ write-blocks-requires c κs =
     (omega (arith, (c .before .before .before .before .before .before .before .before .before .before .before .pre .2), (c .before .before .before .before .before .size .ensures .0)), range-in (c .before .before .before .before .before .before .before .before .before .before .before .args .capacity) (c .before .before .before .before .before .before .address .result) (c .before .before .before .before .before .size .result) (sym (c .before .before .before .before .past-end .ensures) ∙ (c .before .before .before .if1 .left)) (c .before .before .before .before .before .before .before .before .before .before .before .pre .1 .few), (c .before .before .before .before .before .before .before .before .before .before .before .pre .1 .slots), (c .before .before .before .before .before .before .before .before .before .before .before .pre .1 .whole), (c .before .before .if2 .left))
 
 no-room-requires : tie.Need-no-room-requires
-no-room-requires c κs = search needs
+no-room-requires c κs = tt
 
 same-length : tie.Need-same-length
 same-length c = search needs

@@ -9,10 +9,10 @@ size-requires : tie.Need-size-requires
 size-requires c κs = search needs
 
 broken-off-requires : tie.Need-broken-off-requires
-broken-off-requires c κs = search needs
+broken-off-requires c κs = tt
 
 list-length-requires : tie.Need-list-length-requires
-list-length-requires c κs = search needs
+list-length-requires c κs = tt
 
 returns : tie.Need-returns
 returns c = unmap-broken _ _ _ _ _ _ (c .before .before .before .size .ensures .0) _ (c .list-length .ensures) (sym (c .before .before .broken-off .ensures) ∙ (c .before .if1 .taken))
@@ -21,10 +21,10 @@ returns-2 : tie.Need-returns-2
 returns-2 c = unmap-short _ _ _ _ _ _ (c .before .before .before .size .ensures .0) (sym (c .before .before .broken-off .ensures) ∙ (c .before .if1 .left)) (c .if2 .taken)
 
 considered-requires : tie.Need-considered-requires
-considered-requires c κs = search needs
+considered-requires c κs = tt
 
 list-field-requires : tie.Need-list-field-requires
-list-field-requires c κs = search needs
+list-field-requires c κs = tt
 
 returns-3 : tie.Need-returns-3
 returns-3 c = unmap-many _ _ _ _ _ _ (c .before .before .before .before .before .before .size .ensures .0) (sym (c .before .before .before .before .before .broken-off .ensures) ∙ (c .before .before .before .before .if1 .left)) (c .before .before .before .if2 .left) _ (c .before .before .considered .ensures) _ (c .list-field .ensures) (c .before .if3 .taken)
@@ -33,7 +33,7 @@ some-fails-requires : tie.Need-some-fails-requires
 some-fails-requires c κs = search needs
 
 out-of-range-requires : tie.Need-out-of-range-requires
-out-of-range-requires c κs = search needs
+out-of-range-requires c κs = tt
 
 returns-4 : tie.Need-returns-4
 returns-4 c = unmap-range _ _ _ _ _ _ (c .before .before .before .before .before .before .before .before .size .ensures .0) (sym (c .before .before .before .before .before .before .before .broken-off .ensures) ∙ (c .before .before .before .before .before .before .if1 .left)) (c .before .before .before .before .before .if2 .left) _ (c .before .before .before .before .considered .ensures) (c .before .before .before .if3 .left) _ (c .out-of-range .ensures) (sym (c .before .before .some-fails .ensures) ∙ (c .before .if4 .taken))

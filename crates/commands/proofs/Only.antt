@@ -1,0 +1,31 @@
+-- The promises of the entry points admit no second outcome: they determine the answer, the length, the unit and every lent byte.
+-- Assumes nothing.
+use mathlib.Core.Path.{_≡_, sym, ap, _∙_}
+use mathlib.Core.List.{List}
+use Prim.Native.Nat.{ℕ}
+use Rattle.commands.specs.declared.Outcome.{Outcome}
+use Rattle.commands.specs.declared.Made.{Made}
+use Rattle.commands.specs.Store.{Store, Call, Result}
+use Rattle.commands.specs.Step.{step}
+use Rattle.commands.specs.Fresh.{FreshResult, fresh}
+use Rattle.commands.specs.Contract.{left, made}
+
+pub execute-only : (s : Store) (c : Call) (r q : Outcome) (owners owners′ medium medium′ dataIn dataIn′ sense sense′ : List ℕ)
+    → left r owners medium dataIn sense ≡ step s c → left q owners′ medium′ dataIn′ sense′ ≡ step s c
+    → (r ≡ q) × (owners ≡ owners′) × (medium ≡ medium′) × (dataIn ≡ dataIn′) × (sense ≡ sense′)
+execute-only s c r q owners owners′ medium medium′ dataIn dataIn′ sense sense′ e h =
+    let same : left r owners medium dataIn sense ≡ left q owners′ medium′ dataIn′ sense′ = e ∙ sym h in (
+      ap (λ (x : Result). record { answer = x .seen .answer; returned = x .seen .returned; unit = x .store .unit }) same,
+      ap (λ (x : Result). x .store .pool .owners) same,
+      ap (λ (x : Result). x .store .pool .medium) same,
+      ap (λ (x : Result). x .seen .dataIn) same,
+      ap (λ (x : Result). x .seen .sense) same,
+    )
+
+pub fresh-only : (capacity : ℕ) (before : List ℕ) (r q : Made) (owners owners′ : List ℕ)
+    → made r owners ≡ fresh capacity before → made q owners′ ≡ fresh capacity before → (r ≡ q) × (owners ≡ owners′)
+fresh-only capacity before r q owners owners′ e h =
+    let same : made r owners ≡ made q owners′ = e ∙ sym h in (
+      ap (λ (x : FreshResult). record { answer = x .answer; unit = x .unit }) same,
+      ap (λ (x : FreshResult). x .owners) same,
+    )

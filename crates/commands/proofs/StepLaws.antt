@@ -23,6 +23,7 @@ use Rattle.forms.specs.declared.Kind.the-variants.{Tells, Moves, Alters, Unknow
 use Rattle.forms.specs.declared.Form.{Form}
 use Rattle.forms.specs.Forms.{formOf}
 use Rattle.forms.specs.Tests.{inquiryRows, transferRows, unmapRows, typeRows, fieldRows, formRows}
+use Rattle.forms.proofs.Refusing.{form-refusing}
 use Rattle.commands.specs.declared.Outcome.{Outcome}
 use Rattle.commands.specs.Store.{Store, Call, Result, seenOf}
 use Rattle.commands.specs.Tell.{tellRows}
@@ -32,32 +33,6 @@ use Rattle.commands.specs.Step.{callRows, storeRows, ownRows, answerBy, 
 use Rattle.commands.specs.Contract.{callOf, left}
 use Rattle.commands.specs.Parts.{readyFor, replyOf, Served, served, serves, servedBy, servedWith, bare}
 use Rattle.commands.proofs.ServeLaws.{plain, serving, serves-refused}
-
--- ---- the tests of the CDB by itself all refuse
-
-field-refusing : (f : Form) (k : Kind) (cdb : List ℕ) → T (refusing (fieldRows f k cdb))
-unfolding fieldRows inquiryRows transferRows unmapRows typeRows refusing refuses
-field-refusing f (Tells Ready) cdb = tt
-field-refusing f (Tells Inquiry) cdb = tt
-field-refusing f (Tells Capacity10) cdb = tt
-field-refusing f (Tells Capacity16) cdb = tt
-field-refusing f (Tells Keys) cdb = tt
-field-refusing f (Tells Reservation) cdb = tt
-field-refusing f (Moves Read) cdb = tt
-field-refusing f (Moves Write) cdb = tt
-field-refusing f (Moves Unmap) cdb = tt
-field-refusing f (Alters Register) cdb = tt
-field-refusing f (Alters Reserve) cdb = tt
-field-refusing f (Alters Release) cdb = tt
-field-refusing f (Alters Clear) cdb = tt
-field-refusing f (Alters Preempt) cdb = tt
-field-refusing f (Alters RegisterIgnoring) cdb = tt
-field-refusing f Unknown cdb = tt
-field-refusing f Unlisted cdb = tt
-
-pub form-refusing : (f : Form) (k : Kind) (cdb : List ℕ) → T (refusing (formRows f k cdb))
-unfolding formRows refusing refuses
-form-refusing f k cdb = field-refusing f k cdb
 
 -- ---- the tests before any command
 

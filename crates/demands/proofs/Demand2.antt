@@ -6,6 +6,9 @@ use Prim.Native.Nat.{ℕ}
 use Rattle.commands.specs.Store.{Store, Call, Result}
 use Rattle.commands.specs.Step.{step}
 use Rattle.commands.specs.Fresh.{FreshResult, fresh}
+use Rattle.commands.specs.declared.Outcome.{Outcome}
+use Rattle.commands.specs.Contract.{left}
+use Rattle.commands.proofs.Only.{execute-only}
 use Rattle.demands.specs.History.{Build}
 use Rattle.demands.specs.Generation.{generation}
 use Rattle.demands.specs.Demands.{Demand1, Demand2, Demand3}
@@ -31,6 +34,12 @@ once s c o o′ e e′ = e ∙ sym e′
 
 pub fresh-once : (capacity : ℕ) (owners : List ℕ) (o o′ : FreshResult) → o ≡ fresh capacity owners → o′ ≡ fresh capacity owners → o ≡ o′
 fresh-once capacity owners o o′ e e′ = e ∙ sym e′
+
+-- the promise of `execute` itself, by which nothing that it leaves could be otherwise
+pub execute-once : (s : Store) (c : Call) (r q : Outcome) (owners owners′ medium medium′ dataIn dataIn′ sense sense′ : List ℕ)
+    → left r owners medium dataIn sense ≡ step s c → left q owners′ medium′ dataIn′ sense′ ≡ step s c → r ≡ q
+execute-once s c r q owners owners′ medium medium′ dataIn dataIn′ sense sense′ e h =
+    execute-only s c r q owners owners′ medium medium′ dataIn dataIn′ sense sense′ e h .0
 
 -- ---- what holds of `step` holds of every build that is exact
 

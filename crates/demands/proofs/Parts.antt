@@ -17,6 +17,7 @@ use Rattle.forms.specs.declared.Kind.{Kind}
 use Rattle.forms.specs.declared.Kind.the-variants.{Tells, Moves, Alters, Unknown, Unlisted}
 use Rattle.forms.specs.declared.Form.{Form}
 use Rattle.forms.specs.Tests.{inquiryRows, transferRows, unmapRows, typeRows, fieldRows, formRows}
+use Rattle.forms.proofs.Refusing.{form-refusing}
 use Rattle.commands.specs.Store.{Store, Call, usable}
 use Rattle.commands.specs.Step.{callRows, storeRows, ownRows}
 
@@ -25,30 +26,6 @@ abbrev pub answerAs : Form → Kind → Store → Call → Answer
 answerAs f k s c = first (callRows c ++ (storeRows s ++ (formRows f k (c .cdb) ++ ownRows f k s c)))
 
 -- ---- the tests before a command's own all refuse
-
-field-refusing : (f : Form) (k : Kind) (cdb : List ℕ) → T (refusing (fieldRows f k cdb))
-unfolding fieldRows inquiryRows transferRows unmapRows typeRows refusing refuses
-field-refusing f (Tells Ready) cdb = tt
-field-refusing f (Tells Inquiry) cdb = tt
-field-refusing f (Tells Capacity10) cdb = tt
-field-refusing f (Tells Capacity16) cdb = tt
-field-refusing f (Tells Keys) cdb = tt
-field-refusing f (Tells Reservation) cdb = tt
-field-refusing f (Moves Read) cdb = tt
-field-refusing f (Moves Write) cdb = tt
-field-refusing f (Moves Unmap) cdb = tt
-field-refusing f (Alters Register) cdb = tt
-field-refusing f (Alters Reserve) cdb = tt
-field-refusing f (Alters Release) cdb = tt
-field-refusing f (Alters Clear) cdb = tt
-field-refusing f (Alters Preempt) cdb = tt
-field-refusing f (Alters RegisterIgnoring) cdb = tt
-field-refusing f Unknown cdb = tt
-field-refusing f Unlisted cdb = tt
-
-form-refusing : (f : Form) (k : Kind) (cdb : List ℕ) → T (refusing (formRows f k cdb))
-unfolding formRows refusing refuses
-form-refusing f k cdb = field-refusing f k cdb
 
 call-refusing : (c : Call) → T (refusing (callRows c))
 unfolding callRows refusing refuses

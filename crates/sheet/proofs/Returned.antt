@@ -24,7 +24,7 @@ use Rattle.forms.specs.Tests.{formRows}
 use Rattle.commands.specs.Store.{Store, Call, seenOf}
 use Rattle.commands.specs.Tell.{told, tellRows}
 use Rattle.commands.specs.Move.{moveRows, rangeRows, fetched}
-use Rattle.commands.proofs.StepLaws.{form-refusing}
+use Rattle.forms.proofs.Refusing.{form-refusing}
 use Rattle.commands.specs.Step.{callRows, storeRows, ownRows, answerBy, dataBy, stepBy, step}
 
 -- ---- a block is read as at most 512 bytes

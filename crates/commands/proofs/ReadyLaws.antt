@@ -7,7 +7,7 @@ use Prim.Native.Nat.{ℕ, _*_, _^_, _≤_}
 use native.Mathlib.Omega.{arith}
 use lib.Dec.{T, eqb, leb, ltb, leb→le, eqb→eq, nltb→le}
 use lib.ListN.{length}
-use Rattle.fields.proofs.Tests.{and-l, and-r, true→T}
+use Rattle.fields.proofs.Tests.{and-l, and-r, true→T, T-true}
 use Rattle.map.specs.declared.Slot.{Slot}
 use Rattle.map.specs.declared.Checked.{Checked}
 use Rattle.map.specs.declared.Checked.the-variants.{Valid, Beyond, Clash}
@@ -93,17 +93,9 @@ and-rest : (a b : Bool) → a ≡ true → b ≡ (a && b)
 and-rest true b e = refl
 and-rest false b e = absurd (false≢true e)
 
-T→true : (b : Bool) → T b → true ≡ b
-T→true true t = refl
-T→true false t = absurd t
-
-T→false : (b : Bool) → T (not b) → false ≡ b
-T→false true t = absurd t
-T→false false t = refl
-
 module _ (capacity : ℕ) (owners : List ℕ) where
   pub map-valid : checked capacity owners ≡ Valid → true ≡ mapOk capacity owners
-  map-valid e = T→true (mapOk capacity owners) (checked-valid capacity owners e)
+  map-valid e = sym (T-true (mapOk capacity owners) (checked-valid capacity owners e))
 
   unlike : (b : Bool) (o : Checked) → (T b → checked capacity owners ≡ Valid) → checked capacity owners ≡ o → (o ≡ Valid → ⊥) → false ≡ b
   unlike true o valid e never = absurd (never (sym e ∙ valid tt))

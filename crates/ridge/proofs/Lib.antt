@@ -2,3 +2,4 @@ pub mod WordLaws
 pub mod FarNexus
 pub mod InterfaceLaws
 pub mod WordsBack
+pub mod Refusals

@@ -1,31 +1,37 @@
--- An order of tests: a list of rows, each an answer and when it is given.
+-- The order of tests of the store's calls: rows of its answers.
 -- Assumes nothing.
 use mathlib.Core.Bool.{Bool, true, false}
-use mathlib.Core.List.{List, [], _∷_}
+use mathlib.Core.List.{List}
+use Rattle.order.specs.Order.{Row as RowOf, OneGood}
 use Rattle.answers.specs.declared.Answer.{Answer}
 use Rattle.answers.specs.declared.Answer.the-variants.{Good, Refused, Conflict, Unusable, Short}
 
-infix 68 _if_
-pub data Row : Type 0 where
-  _if_ : Answer → Bool → Row
+pub use Rattle.order.specs.Order.{_if_}
+unfoldable pub use Rattle.order.specs.Order.{firstOf, nextBy, ifGoodBy, refusingBy}
 
--- "Each is given exactly when its condition holds and nothing earlier in the order does": the first row that holds, and GOOD where none does
-unfoldable pub first : List Row → Answer
-first [] = Good
-first ((a if b) ∷ rows) = elim b [ true ↦ a | false ↦ first rows ]
+abbrev pub Row : Type 0
+Row = RowOf Answer
+
+-- an answer that is not GOOD
+unfoldable pub refuses : Answer → Bool
+refuses Good = false
+refuses (Refused s) = true
+refuses Conflict = true
+refuses Unusable = true
+refuses Short = true
+
+-- the first row that holds, and GOOD where none does
+abbrev pub first : List Row → Answer
+first = firstOf Good
 
 -- a refusal stands; after GOOD the later answer counts
-unfoldable pub next : Answer → Answer → Answer
-next Good later = later
-next (Refused s) later = Refused s
-next Conflict later = Conflict
-next Unusable later = Unusable
-next Short later = Short
+abbrev pub next : Answer → Answer → Answer
+next = nextBy refuses
 
 -- a value where the call is done, and another where it is refused
-unfoldable pub ifGood {ℓ} : {A : Type ℓ} → Answer → A → A → A
-ifGood Good done kept = done
-ifGood (Refused s) done kept = kept
-ifGood Conflict done kept = kept
-ifGood Unusable done kept = kept
-ifGood Short done kept = kept
+abbrev pub ifGood {ℓ} : {A : Type ℓ} → Answer → A → A → A
+ifGood = ifGoodBy refuses
+
+-- rows that all refuse
+abbrev pub refusing : List Row → Bool
+refusing = refusingBy refuses

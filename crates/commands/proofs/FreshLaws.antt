@@ -7,7 +7,7 @@ use Prim.Native.Nat.{ℕ}
 use lib.ListN.{length}
 use Rattle.fields.specs.Bytes.{zeros}
 use Rattle.answers.specs.declared.Answer.the-variants.{Good, Unusable}
-use Rattle.answers.specs.Order.{ifGood}
+use Rattle.answers.specs.Order.{ifGood, ifGoodBy, refuses}
 use Rattle.answers.proofs.OrderLaws.{row-pass, row-stop, row-end}
 use Rattle.map.specs.Valid.{capacityOk, slotsOk}
 use Rattle.reservations.specs.declared.Rights.{Rights}
@@ -31,7 +31,7 @@ module _ (capacity : ℕ) (owners : List ℕ) where
   module _ (rights : Rights) (none : rights ≡ noRights) where
     refused : freshAnswer capacity (length owners) ≡ Unusable
         → made (record { answer = Unusable; unit = record { capacity = 0; rights = rights } }) owners ≡ fresh capacity owners
-    unfolding fresh freshUnit ifGood
+    unfolding fresh freshUnit ifGoodBy refuses
     refused e = rw (none, e)
 
     pub fresh-capacity : capacityOk capacity ≡ false
@@ -44,5 +44,5 @@ module _ (capacity : ℕ) (owners : List ℕ) where
 
     pub fresh-made : (after : List ℕ) → capacityOk capacity ≡ true → slotsOk (length owners) ≡ true → after ≡ zeros (length owners)
         → made (record { answer = Good; unit = record { capacity = capacity; rights = rights } }) after ≡ fresh capacity owners
-    unfolding fresh freshUnit ifGood
+    unfolding fresh freshUnit ifGoodBy refuses
     fresh-made after e h k = rw (none, k, no-fault e h)

@@ -12,8 +12,8 @@ use Rattle.fields.specs.Bytes.{put}
 use Rattle.answers.specs.declared.Answer.{Answer}
 use Rattle.answers.specs.declared.Answer.the-variants.{Good, Conflict, Short}
 use Rattle.answers.specs.Answers.{outOfRange, listLength, listField, noRoom}
-use Rattle.answers.specs.Order.{Row, _if_, first}
-use Rattle.answers.proofs.OrderLaws.{refuses, row-pass, row-stop, row-end, row-fails, rows-after}
+use Rattle.answers.specs.Order.{Row, _if_, first, refuses}
+use Rattle.answers.proofs.OrderLaws.{row-pass, row-stop, row-end, row-fails, rows-after}
 use Rattle.map.specs.Pool.{Pool, free, unmapped, readBlocks, writeBlocks}
 use Rattle.map.specs.Write.{pool, roomFor, Written, written, tryWrite}
 use Rattle.map.proofs.Reading.{length-readBlocks}

@@ -13,8 +13,8 @@ use Rattle.answers.proofs.Answer.{the-type}
 use Rattle.answers.specs.declared.Answer.{Answer}
 use Rattle.answers.specs.declared.Answer.the-variants.{Good, Refused, Conflict, Unusable, Short}
 use Rattle.answers.specs.Answers.{senseAfter}
-use Rattle.answers.specs.Order.{Row, _if_, first, next, ifGood}
-use Rattle.answers.proofs.OrderLaws.{refuses, refusing, first-append, next-good, next-refuses}
+use Rattle.answers.specs.Order.{Row, _if_, first, next, ifGood, firstOf, ifGoodBy, refuses, refusing}
+use Rattle.answers.proofs.OrderLaws.{first-append, next-good, next-refuses}
 use Rattle.reservations.specs.declared.Action.the-variants.{Register, Reserve, Release, Clear, Preempt, RegisterIgnoring}
 use Rattle.forms.specs.declared.Tell.the-variants.{Ready, Inquiry, Capacity10, Capacity16, Keys, Reservation}
 use Rattle.forms.specs.declared.Move.the-variants.{Read, Write, Unmap}
@@ -38,7 +38,7 @@ use Rattle.commands.proofs.ServeLaws.{plain, serving, serves-refused}
 
 rows-pass : (a b d u : Bool) (rows : List Row) → (not a && (not b && (not d && u))) ≡ true
     → first (Unusable if a ∷ Unusable if b ∷ Unusable if d ∷ Unusable if not u ∷ rows) ≡ first rows
-unfolding first
+unfolding firstOf
 rows-pass true b d u rows e = absurd (false≢true e)
 rows-pass false true d u rows e = absurd (false≢true e)
 rows-pass false false true u rows e = absurd (false≢true e)
@@ -47,7 +47,7 @@ rows-pass false false false false rows e = absurd (false≢true e)
 
 rows-stop : (a b d u : Bool) (rows : List Row) → (not a && (not b && (not d && u))) ≡ false
     → first (Unusable if a ∷ Unusable if b ∷ Unusable if d ∷ Unusable if not u ∷ rows) ≡ Unusable
-unfolding first
+unfolding firstOf
 rows-stop true b d u rows e = refl
 rows-stop false true d u rows e = refl
 rows-stop false false true u rows e = refl
@@ -115,7 +115,7 @@ module _ (s : Store) (n : ℕ) (cdb out in′ sense : List ℕ) where
   -- a call that is refused before its command is looked at
   pub step-unready : readyFor s (callOf n cdb [] [] sense) ≡ false
       → left (bare Unusable (s .unit)) (s .pool .owners) (s .pool .medium) in′ sense ≡ step s (callOf n cdb out in′ sense)
-  unfolding step stepBy seenOf readyFor ifGood senseAfter
+  unfolding step stepBy seenOf readyFor ifGoodBy senseAfter refuses
   step-unready e = rw (answer-unready (formOf cdb) s (callOf n cdb out in′ sense) e)
 
 -- ---- the CDB by itself

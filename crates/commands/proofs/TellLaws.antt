@@ -15,8 +15,8 @@ use Rattle.fields.proofs.BytesLaws.{put-none}
 use Rattle.answers.specs.declared.Answer.{Answer}
 use Rattle.answers.specs.declared.Answer.the-variants.{Good, Short}
 use Rattle.answers.specs.Answers.{listLength}
-use Rattle.answers.specs.Order.{_if_, first, ifGood}
-use Rattle.answers.proofs.OrderLaws.{refuses, row-pass, row-stop, row-end}
+use Rattle.answers.specs.Order.{_if_, first, ifGood, firstOf, ifGoodBy, refuses}
+use Rattle.answers.proofs.OrderLaws.{row-pass, row-stop, row-end}
 use Rattle.reservations.specs.declared.Rights.{Rights}
 use Rattle.reservations.specs.declared.Action.{Action}
 use Rattle.reservations.specs.Actions.{orderRows, decided}
@@ -174,11 +174,11 @@ module _ (f : Form) (u : Unit) (owners medium : List ℕ) (c : Call) where
       (serves-part (λ (x : Rights). storeOf (record { capacity = u .capacity; rights = x }) owners medium) _ _ (u .rights) (c .dataIn))
 
   pub unknown-served : (k : Kind) → k ≡ Unknown → served (bare Good u) owners medium (c .dataIn) ≡ servedBy f k (storeOf u owners medium) c
-  unfolding servedBy ownRows dataBy storeBy first ifGood
+  unfolding servedBy ownRows dataBy storeBy firstOf ifGoodBy refuses
   unknown-served k e = rw e (serves-part (λ (s : Store). s) Good (storeOf u owners medium) (storeOf u owners medium) (c .dataIn))
 
   pub unlisted-served : (k : Kind) → k ≡ Unlisted → served (bare Good u) owners medium (c .dataIn) ≡ servedBy f k (storeOf u owners medium) c
-  unfolding servedBy ownRows dataBy storeBy first ifGood
+  unfolding servedBy ownRows dataBy storeBy firstOf ifGoodBy refuses
   unlisted-served k e = rw e (serves-part (λ (s : Store). s) Good (storeOf u owners medium) (storeOf u owners medium) (c .dataIn))
 
 -- ---- PERSISTENT RESERVE OUT: n is the list length
@@ -197,11 +197,11 @@ module _ (f : Form) (a : Action) (r : Rights) (c : Call) (n : ℕ) (en : n ≡ s
   order-row e h = row-pass listLength _ _ (rw (← en, eq-eqb n 24 e)) ∙ row-pass Short _ _ (le-ltb (length (c .dataOut)) 24 h)
 
   pub alter-length : (x : Answer) → x ≡ listLength → (n ≡ 24 → ⊥) → record { answer = x; rights = r } ≡ altered f a r c
-  unfolding altered ifGood
+  unfolding altered ifGoodBy refuses
   alter-length x e h = rw (e, length-row h)
 
   pub alter-short : n ≡ 24 → length (c .dataOut) < 24 → record { answer = Short; rights = r } ≡ altered f a r c
-  unfolding altered ifGood
+  unfolding altered ifGoodBy refuses
   alter-short e h = rw (short-row e h)
 
   pub alter-decided : n ≡ 24 → 24 ≤ length (c .dataOut) → decided a r (c .nexus) (orderOf (c .cdb) (c .dataOut)) ≡ altered f a r c

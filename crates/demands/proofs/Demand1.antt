@@ -14,8 +14,8 @@ use Rattle.fields.proofs.Tests.{and-l, and-r, both}
 use Rattle.answers.specs.declared.Answer.{Answer}
 use Rattle.answers.specs.declared.Answer.the-variants.{Good, Refused, Conflict, Unusable, Short}
 use Rattle.answers.specs.Answers.{senses, sameSense, rowOf, numberOf, fixedFormat, senseAfter}
-use Rattle.answers.specs.Order.{Row, _if_, first, ifGood}
-use Rattle.answers.proofs.OrderLaws.{refuses, if-refused}
+use Rattle.answers.specs.Order.{Row, _if_, first, ifGood, firstOf, ifGoodBy, refuses}
+use Rattle.answers.proofs.OrderLaws.{if-refused}
 use Rattle.reservations.specs.declared.Action.{Action}
 use Rattle.reservations.specs.declared.Action.the-variants.{Register, Reserve, Release, Clear, Preempt, RegisterIgnoring}
 use Rattle.reservations.specs.declared.Rights.{Rights}
@@ -52,7 +52,7 @@ allListed [] = true
 allListed ((a if b) ∷ rows) = listed a && allListed rows
 
 first-listed : (rows : List Row) → T (allListed rows) → T (listed (first rows))
-unfolding first allListed listed isOneOf numberOf
+unfolding firstOf allListed listed isOneOf numberOf
 first-listed [] t = tt
 first-listed ((a if true) ∷ rows) t = and-l (listed a) (allListed rows) t
 first-listed ((a if false) ∷ rows) t = first-listed rows (and-r (listed a) (allListed rows) t)
@@ -177,7 +177,7 @@ sense-length-by Unusable l = refl
 sense-length-by Short l = refl
 
 data-past-by : (a : Answer) (l bs : List ℕ) → drop (ifGood a (length bs) 0) (ifGood a (put l 0 bs) l) ≡ drop (ifGood a (length bs) 0) l
-unfolding ifGood
+unfolding ifGoodBy refuses
 data-past-by Good l bs = drop-put l 0 bs (length bs) (omega arith)
 data-past-by (Refused n) l bs = refl
 data-past-by Conflict l bs = refl
@@ -185,7 +185,7 @@ data-past-by Unusable l bs = refl
 data-past-by Short l bs = refl
 
 data-length-by : (a : Answer) (l bs : List ℕ) → length (ifGood a (put l 0 bs) l) ≡ length l
-unfolding ifGood
+unfolding ifGoodBy refuses
 data-length-by Good l bs = length-put l 0 bs
 data-length-by (Refused n) l bs = refl
 data-length-by Conflict l bs = refl

@@ -10,8 +10,8 @@ use Rattle.fields.specs.Field.{byte}
 use Rattle.fields.proofs.Tests.{and-map, or-l, or-other, nor-l, not-not-intro, not-map, true→T, false→T, T-true}
 use Rattle.answers.specs.declared.Answer.{Answer}
 use Rattle.answers.specs.declared.Answer.the-variants.{Good, Refused, Conflict, Unusable, Short}
-use Rattle.answers.specs.Order.{first, ifGood}
-use Rattle.answers.proofs.OrderLaws.{refuses, row-stop, if-refused}
+use Rattle.answers.specs.Order.{first, ifGood, ifGoodBy, refuses}
+use Rattle.answers.proofs.OrderLaws.{row-stop, if-refused}
 use Rattle.map.specs.Valid.{slotsOk}
 use Rattle.map.proofs.Keeping.{poolOk-of, mapOk-zeros}
 use Rattle.reservations.specs.declared.Rights.{Rights}
@@ -40,7 +40,7 @@ use Rattle.demands.proofs.Usable.{usable-unit, usable-of, usable-stays}
 -- ---- a refusal tells nothing
 
 seen-refused : (a : Answer) (bs bs′ : List ℕ) (c : Call) → T (refuses a) → seenOf a bs c ≡ seenOf a bs′ c
-unfolding seenOf ifGood refuses
+unfolding seenOf ifGoodBy refuses
 seen-refused Good bs bs′ c t = absurd t
 seen-refused (Refused s) bs bs′ c t = refl
 seen-refused Conflict bs bs′ c t = refl
@@ -98,7 +98,7 @@ module _ (f : Form) (s t : Store) (c : Call) (e : s .unit ≡ t .unit) where
   unit-done Unlisted = e
 
   unit-same : (k : Kind) (a : Answer) → ifGood a (storeBy f k s c) s .unit ≡ ifGood a (storeBy f k t c) t .unit
-  unfolding ifGood
+  unfolding ifGoodBy refuses
   unit-same k Good = unit-done k
   unit-same k (Refused n) = e
   unit-same k Conflict = e

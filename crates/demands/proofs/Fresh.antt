@@ -11,7 +11,7 @@ use Rattle.fields.specs.Bytes.{zeros}
 use Rattle.fields.proofs.BytesLaws.{length-zeros}
 use Rattle.answers.specs.declared.Answer.{Answer}
 use Rattle.answers.specs.declared.Answer.the-variants.{Good, Unusable}
-use Rattle.answers.specs.Order.{_if_, first, next, ifGood}
+use Rattle.answers.specs.Order.{_if_, first, next, ifGood, firstOf, ifGoodBy, nextBy, refuses}
 use Rattle.answers.proofs.OrderLaws.{row-stop}
 use Rattle.map.specs.Valid.{capacityOk, slotsOk}
 use Rattle.map.proofs.Keeping.{poolOk-of, mapOk-zeros}
@@ -29,13 +29,13 @@ use Rattle.demands.proofs.Usable.{unit-of, usable-of}
 
 module _ (capacity : ℕ) (owners : List ℕ) where
   bounds : (a b : Bool) → T (a && b) → first (Unusable if not a ∷ Unusable if not b ∷ []) ≡ Good
-  unfolding first
+  unfolding firstOf
   bounds true true t = refl
   bounds true false t = absurd t
   bounds false b t = absurd t
 
   no-bounds : (a b : Bool) → T (not (a && b)) → first (Unusable if not a ∷ Unusable if not b ∷ []) ≡ Unusable
-  unfolding first
+  unfolding firstOf
   no-bounds true true t = absurd t
   no-bounds true false t = refl
   no-bounds false b t = refl
@@ -43,7 +43,7 @@ module _ (capacity : ℕ) (owners : List ℕ) where
   -- "no mapping, registration or reservation and generation 0"
   pub fresh-made : T (capacityOk capacity && slotsOk (length owners))
       → fresh capacity owners ≡ record { answer = Good; unit = freshUnit capacity; owners = zeros (length owners) }
-  unfolding fresh freshAnswer ifGood
+  unfolding fresh freshAnswer ifGoodBy refuses
   fresh-made t =
       ap (λ (a : Answer). record { answer = a; unit = ifGood a (freshUnit capacity) (freshUnit 0); owners = ifGood a (zeros (length owners)) owners })
       (bounds (capacityOk capacity) (slotsOk (length owners)) t)
@@ -51,7 +51,7 @@ module _ (capacity : ℕ) (owners : List ℕ) where
   -- "bad bounds give 11 and leave all"
   pub fresh-refused : T (not (capacityOk capacity && slotsOk (length owners)))
       → fresh capacity owners ≡ record { answer = Unusable; unit = freshUnit 0; owners = owners }
-  unfolding fresh freshAnswer ifGood
+  unfolding fresh freshAnswer ifGoodBy refuses
   fresh-refused t =
       ap (λ (a : Answer). record { answer = a; unit = ifGood a (freshUnit capacity) (freshUnit 0); owners = ifGood a (zeros (length owners)) owners })
       (no-bounds (capacityOk capacity) (slotsOk (length owners)) t)
@@ -72,7 +72,7 @@ fresh-usable capacity slots medium b s e =
 -- ---- on no other
 
 call-eleven : (c : Call) → next (first (callRows c)) Unusable ≡ Unusable
-unfolding callRows first next
+unfolding callRows firstOf nextBy refuses
 call-eleven c = go (ltb 15 (c .nexus)) (eqb (length (c .cdb)) 0) (ltb (length (c .sense)) 18)
   where
     go : (x y z : Bool) → next (first (Unusable if x ∷ Unusable if y ∷ Unusable if z ∷ [])) Unusable ≡ Unusable
@@ -87,7 +87,7 @@ store-eleven s t = row-stop Unusable _ _ (T-true (not (usable s)) t)
 
 -- "11 … slots or capacity out of bounds, medium not 512 x slots bytes, invalid state"
 pub unusable-eleven : (s : Store) (c : Call) → T (not (usable s)) → step s c .seen .answer ≡ Unusable
-unfolding step stepBy seenOf answerBy next
+unfolding step stepBy seenOf answerBy nextBy refuses
 unusable-eleven s c t =
     parts (formOf (c .cdb)) (formOf (c .cdb) .kind) s c
     ∙ ap (λ (a : Answer). next (first (callRows c)) (next a (next (first (formRows (formOf (c .cdb)) (formOf (c .cdb) .kind) (c .cdb))) (first (ownRows (formOf (c .cdb)) (formOf (c .cdb) .kind) s c))))) (store-eleven s t)

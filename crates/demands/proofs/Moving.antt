@@ -10,8 +10,8 @@ use Rattle.fields.proofs.Tests.{false→T, not-not}
 use Rattle.answers.specs.declared.Answer.{Answer}
 use Rattle.answers.specs.declared.Answer.the-variants.{Good, Unusable}
 use Rattle.answers.specs.Answers.{invalidField, notListed}
-use Rattle.answers.specs.Order.{first, ifGood}
-use Rattle.answers.proofs.OrderLaws.{refuses, row-fails, rows-after, next-first, next-second, if-good, good-cases}
+use Rattle.answers.specs.Order.{first, ifGood, refuses}
+use Rattle.answers.proofs.OrderLaws.{row-fails, rows-after, next-first, next-second, if-good, good-cases}
 use Rattle.forms.specs.declared.Move.{Move}
 use Rattle.forms.specs.declared.Move.the-variants.{Read, Write, Unmap}
 use Rattle.forms.specs.declared.Kind.{Kind}

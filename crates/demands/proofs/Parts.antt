@@ -8,8 +8,8 @@ use lib.Dec.{T, ltb, nltb→le}
 use Rattle.fields.proofs.Tests.{false→T}
 use Rattle.answers.specs.declared.Answer.{Answer}
 use Rattle.answers.specs.declared.Answer.the-variants.{Good, Refused, Conflict, Unusable, Short}
-use Rattle.answers.specs.Order.{_if_, first, next, ifGood}
-use Rattle.answers.proofs.OrderLaws.{refuses, refusing, row-fails, first-append, next-first, next-second}
+use Rattle.answers.specs.Order.{_if_, first, next, ifGood, firstOf, ifGoodBy, nextBy, refuses, refusing, refusingBy}
+use Rattle.answers.proofs.OrderLaws.{row-fails, first-append, next-first, next-second}
 use Rattle.reservations.specs.declared.Action.the-variants.{Register, Reserve, Release, Clear, Preempt, RegisterIgnoring}
 use Rattle.forms.specs.declared.Tell.the-variants.{Ready, Inquiry, Capacity10, Capacity16, Keys, Reservation}
 use Rattle.forms.specs.declared.Move.the-variants.{Read, Write, Unmap}
@@ -28,11 +28,11 @@ answerAs f k s c = first (callRows c ++ (storeRows s ++ (formRows f k (c .cdb) +
 -- ---- the tests before a command's own all refuse
 
 call-refusing : (c : Call) → T (refusing (callRows c))
-unfolding callRows refusing refuses
+unfolding callRows refusingBy refuses
 call-refusing c = tt
 
 store-refusing : (s : Store) → T (refusing (storeRows s))
-unfolding storeRows refusing refuses
+unfolding storeRows refusingBy refuses
 store-refusing s = tt
 
 -- ---- the parts
@@ -68,7 +68,7 @@ module _ (f : Form) (k : Kind) (s : Store) (c : Call) where
 -- ---- a refusal of a part is one of the whole
 
 next-refused : (a b : Answer) → T (refuses b) → T (refuses (next a b))
-unfolding next refuses
+unfolding nextBy refuses
 next-refused Good b t = t
 next-refused (Refused s) b t = tt
 next-refused Conflict b t = tt
@@ -82,7 +82,7 @@ own-refused f k s c t =
 -- ---- a usable store is not seen by the tests before a command's own
 
 pub usable-passes : (s : Store) → T (usable s) → first (storeRows s) ≡ Good
-unfolding storeRows first
+unfolding storeRows firstOf
 usable-passes s u = go (usable s) u
   where
     go : (b : Bool) → T b → first (Unusable if not b ∷ []) ≡ Good
@@ -103,7 +103,7 @@ own-decides f k s t c u v e =
 
 -- what holds of the store before and after holds of what is left
 pub either-store : (P : Store → Type 0) (a : Answer) (s t : Store) → P t → P s → P (ifGood a t s)
-unfolding ifGood
+unfolding ifGoodBy refuses
 either-store P Good s t x y = x
 either-store P (Refused n) s t x y = y
 either-store P Conflict s t x y = y

@@ -10,7 +10,7 @@ use lib.ListN.{length}
 use Rattle.answers.specs.declared.Answer.{Answer}
 use Rattle.answers.specs.declared.Answer.the-variants.{Conflict, Short}
 use Rattle.answers.specs.Answers.{outOfRange, noRoom}
-use Rattle.answers.specs.Order.{Row, _if_, first}
+use Rattle.answers.specs.Order.{Row, _if_, first, firstOf}
 use Rattle.answers.proofs.OrderLaws.{good-cases}
 use Rattle.map.specs.Pool.{Pool}
 use Rattle.map.specs.Valid.{capacityOk, slotsOk, poolOk}
@@ -52,7 +52,7 @@ same-through s t x e d = record { unit = e .unit ∙ d .unit; pool = alike-throu
 -- ---- what is seen
 
 behind : (a : Answer) (b : Bool) (xs ys : List Row) → first xs ≡ first ys → first (a if b ∷ xs) ≡ first (a if b ∷ ys)
-unfolding first
+unfolding firstOf
 behind a true xs ys e = refl
 behind a false xs ys e = e
 

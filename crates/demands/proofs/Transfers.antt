@@ -12,8 +12,8 @@ use Rattle.fields.proofs.BytesLaws.{part-put-same}
 use Rattle.answers.specs.declared.Answer.{Answer}
 use Rattle.answers.specs.declared.Answer.the-variants.{Good, Short}
 use Rattle.answers.specs.Answers.{outOfRange, noRoom}
-use Rattle.answers.specs.Order.{first, ifGood}
-use Rattle.answers.proofs.OrderLaws.{refuses, row-fails, rows-after}
+use Rattle.answers.specs.Order.{first, ifGood, ifGoodBy, refuses}
+use Rattle.answers.proofs.OrderLaws.{row-fails, rows-after}
 use Rattle.map.specs.Pool.{Pool, free, unmapped, readBlock, readBlocks, writeBlocks}
 use Rattle.map.proofs.Keeping.{poolOk-whole}
 use Rattle.map.proofs.Reading.{fresh-read, read-fresh, write-in, write-out, reads-same, read-after-write, length-readBlocks}
@@ -53,12 +53,12 @@ module _ (s : Store) (r : Call) (a : Asks Read r) (e : IsGood s r) where
   length-read = length-readBlocks (s .pool) (addressIn r) (countIn r) (usable-whole s (good-usable s r e))
 
   pub read-returned : step s r .seen .returned ≡ 512 * countIn r
-  unfolding seenOf ifGood
+  unfolding seenOf ifGoodBy refuses
   read-returned = ap (λ (x : Seen). x .returned) read-seen ∙ length-read
 
   -- they are the first bytes of data-in
   pub read-data : take (512 * countIn r) (step s r .seen .dataIn) ≡ readBlocks (s .pool) (addressIn r) (countIn r)
-  unfolding seenOf ifGood part
+  unfolding seenOf ifGoodBy part refuses
   read-data =
       ap (λ (x : Seen). take (512 * countIn r) (x .dataIn)) read-seen
       ∙ ap (λ (n : ℕ). take n (put (r .dataIn) 0 (readBlocks (s .pool) (addressIn r) (countIn r)))) (sym length-read)

@@ -11,8 +11,8 @@ use Rattle.fields.proofs.Tests.{and-l, and-r, both, not-not, false→T}
 use Rattle.answers.specs.declared.Answer.{Answer}
 use Rattle.answers.specs.declared.Answer.the-variants.{Good, Refused, Conflict, Unusable, Short}
 use Rattle.answers.specs.Answers.{notListed, invalidField, outOfRange, listLength}
-use Rattle.answers.specs.Order.{first, ifGood}
-use Rattle.answers.proofs.OrderLaws.{refuses, row-fails, rows-after}
+use Rattle.answers.specs.Order.{first, ifGood, ifGoodBy, refuses}
+use Rattle.answers.proofs.OrderLaws.{row-fails, rows-after}
 use Rattle.map.specs.Pool.{Pool, writeBlocks, unmapBlocks}
 use Rattle.map.specs.Valid.{capacityOk, poolOk}
 use Rattle.map.proofs.Keeping.{poolOk-writeBlocks, poolOk-unmapBlocks, length-assignBlocks, length-putBlocks, length-unmapOwners}
@@ -159,7 +159,7 @@ done-usable f Unknown s c u e = u
 done-usable f Unlisted s c u e = u
 
 left-usable : (f : Form) (k : Kind) (s : Store) (c : Call) (a : Answer) → T (usable s) → answerAs f k s c ≡ a → T (usable (ifGood a (storeBy f k s c) s))
-unfolding ifGood
+unfolding ifGoodBy refuses
 left-usable f k s c Good u e = done-usable f k s c u e
 left-usable f k s c (Refused n) u e = u
 left-usable f k s c Conflict u e = u

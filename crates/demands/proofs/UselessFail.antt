@@ -16,6 +16,7 @@ use Rattle.demands.specs.Demands.{Demand3}
 use Rattle.demands.specs.Useless.{blind, unmoved, constant, refusing, leaving}
 use Rattle.demands.specs.Checker.{Want, good, refused, same, sameStatus, senseShows, met, Case, Expect, _gives_, run, passed}
 use Rattle.demands.specs.Cases.{caseOf, caseH, writeH}
+use Rattle.answers.specs.Order.{refusingBy}
 
 -- ---- they meet demand 3
 
@@ -47,7 +48,7 @@ unfolding constant
 constant-meets a = blind-meets (unmoved a)
 
 pub refusing-meets : Demand3 refusing
-unfolding refusing
+unfolding refusingBy
 refusing-meets = constant-meets _
 
 pub leaving-meets : Demand3 leaving

@@ -11,8 +11,8 @@ use lib.ListN.{length}
 use Rattle.answers.specs.declared.Answer.{Answer}
 use Rattle.answers.specs.declared.Answer.the-variants.{Good, Conflict, Short}
 use Rattle.answers.specs.Answers.{outOfRange, listLength, listField, noRoom}
-use Rattle.answers.specs.Order.{first, next}
-use Rattle.answers.proofs.OrderLaws.{refuses, row-pass, row-stop, row-end, row-fails, rows-after, next-good, next-first, next-second}
+use Rattle.answers.specs.Order.{first, next, refuses}
+use Rattle.answers.proofs.OrderLaws.{row-pass, row-stop, row-end, row-fails, rows-after, next-good, next-first, next-second}
 use Rattle.map.specs.Pool.{free, unmapped}
 use Rattle.map.specs.Valid.{capacityOk, slotsOk}
 use Rattle.descriptors.specs.Descriptors.{considered, someFails}

@@ -6,8 +6,8 @@ use mathlib.Core.List.{map}
 use Prim.Native.Nat.{ℕ, _+_, _%_, _^_}
 use lib.Dec.{T, eqb}
 use Rattle.answers.specs.declared.Answer.the-variants.{Good}
-use Rattle.answers.specs.Order.{first}
-use Rattle.answers.proofs.OrderLaws.{refuses, if-good, if-refused}
+use Rattle.answers.specs.Order.{first, refuses}
+use Rattle.answers.proofs.OrderLaws.{if-good, if-refused}
 use Rattle.reservations.specs.declared.Rights.{Rights}
 use Rattle.reservations.specs.declared.Order.{Order}
 use Rattle.reservations.specs.declared.Action.{Action}

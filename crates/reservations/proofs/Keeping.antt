@@ -9,8 +9,8 @@ use lib.ListN.{length, length-map}
 use Rattle.fields.proofs.Tests.{and-l, and-r, both, or-l, or-r, or-map, or-map², and-map, nor-l, nor-r, nor, not-map, not-not, nand-rest, true→T, false→T, by-test}
 use Rattle.answers.specs.declared.Answer.the-variants.{Good, Conflict}
 use Rattle.answers.specs.Answers.{listField}
-use Rattle.answers.specs.Order.{first}
-use Rattle.answers.proofs.OrderLaws.{refuses, row-fails, rows-after}
+use Rattle.answers.specs.Order.{first, refuses}
+use Rattle.answers.proofs.OrderLaws.{row-fails, rows-after}
 use Rattle.reservations.specs.declared.Place.{Place}
 use Rattle.reservations.specs.declared.Rights.{Rights}
 use Rattle.reservations.specs.declared.Order.{Order}

@@ -8,7 +8,7 @@ use borrow.Author.Tests.{lt-ltb}
 use Rattle.answers.specs.declared.Answer.{Answer}
 use Rattle.answers.specs.declared.Answer.the-variants.{Unusable}
 use Rattle.answers.specs.Answers.{senseAfter}
-use Rattle.answers.specs.Order.{ifGood}
+use Rattle.answers.specs.Order.{ifGood, ifGoodBy, refuses}
 use Rattle.answers.proofs.OrderLaws.{row-stop}
 use Rattle.forms.specs.declared.Form.{Form}
 use Rattle.forms.specs.Forms.{formOf}
@@ -21,5 +21,5 @@ far-answer f s c h = row-stop Unusable _ _ (lt-ltb _ _ h)
 
 pub far-step : (s : Store) (c : Call) → 15 < c .nexus
     → step s c ≡ record { seen = record { answer = Unusable; returned = 0; dataIn = c .dataIn; sense = c .sense }; store = s }
-unfolding step stepBy seenOf ifGood senseAfter
+unfolding step stepBy seenOf ifGoodBy senseAfter refuses
 far-step s c h = rw (far-answer (formOf (c .cdb)) s c h)

@@ -13,7 +13,7 @@ use borrow.Author.Tests.{leb-true, eqb-true}
 use Rattle.fields.specs.Bytes.{part, put, zeros}
 use Rattle.fields.proofs.BytesLaws.{zeros-replicate, put-next, put-none}
 use Rattle.answers.specs.declared.Answer.the-variants.{Good}
-use Rattle.answers.specs.Order.{first, ifGood}
+use Rattle.answers.specs.Order.{first, ifGood, firstOf, ifGoodBy, refuses}
 use Rattle.map.specs.Valid.{capacityOk, slotsOk}
 use Rattle.commands.specs.declared.Unit.{Unit}
 use Rattle.commands.specs.Store.{Store, Call, Seen, Result}
@@ -29,7 +29,7 @@ use Rattle.sheet.proofs.Returned.{returned-fits}
 -- ---- a fresh store of 8 blocks and 2 slots
 
 pub fresh-is : (owners : List ℕ) → length owners ≡ 2 → fresh 8 owners ≡ record { answer = Good; unit = freshUnit 8; owners = zeros 2 }
-unfolding fresh freshAnswer first ifGood capacityOk slotsOk
+unfolding fresh freshAnswer firstOf ifGoodBy capacityOk slotsOk refuses
 fresh-is owners e = rw e
 
 pub fresh-store : (unit : Unit) (owners medium : List ℕ) → unit ≡ freshUnit 8 → owners ≡ zeros 2 → medium ≡ replicate 1024 0

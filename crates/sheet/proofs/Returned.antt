@@ -12,8 +12,8 @@ use Rattle.fields.specs.Bytes.{part, zeros}
 use Rattle.fields.proofs.BytesLaws.{length-zeros}
 use Rattle.answers.specs.declared.Answer.{Answer}
 use Rattle.answers.specs.declared.Answer.the-variants.{Good, Refused, Conflict, Unusable, Short}
-use Rattle.answers.specs.Order.{Row, _if_, first, ifGood}
-use Rattle.answers.proofs.OrderLaws.{refuses, refusing, row-fails, rows-after, first-append, next-second}
+use Rattle.answers.specs.Order.{Row, _if_, first, ifGood, ifGoodBy, refuses, refusing, refusingBy}
+use Rattle.answers.proofs.OrderLaws.{row-fails, rows-after, first-append, next-second}
 use Rattle.map.specs.Pool.{Pool, mapped, place, readBlock, readBlocks}
 use Rattle.forms.specs.declared.Move.the-variants.{Read, Write, Unmap}
 use Rattle.forms.specs.declared.Kind.{Kind}
@@ -44,7 +44,7 @@ blocks-most p a (suc n) =
 
 own-good : (f : Form) (k : Kind) (s : Store) (c : Call)
     → first (callRows c ++ (storeRows s ++ (formRows f k (c .cdb) ++ ownRows f k s c))) ≡ Good → first (ownRows f k s c) ≡ Good
-unfolding callRows storeRows refusing refuses
+unfolding callRows storeRows refusingBy refuses
 own-good f k s c e =
     next-second _ _ (sym (first-append (formRows f k (c .cdb)) _ (form-refusing f k (c .cdb)))
     ∙ next-second _ _ (sym (first-append (storeRows s) _ tt)
@@ -64,7 +64,7 @@ own-fits f Unknown s c e = omega arith
 own-fits f Unlisted s c e = omega arith
 
 good-fits : (a : Answer) (n m : ℕ) → (a ≡ Good → n ≤ m) → ifGood a n 0 ≤ m
-unfolding ifGood
+unfolding ifGoodBy refuses
 good-fits Good n m h = h refl
 good-fits (Refused s) n m h = omega arith
 good-fits Conflict n m h = omega arith

@@ -1,4 +1,4 @@
-use Rattle.answers.specs.Order.{ifGood}
+use Rattle.answers.specs.Order.{ifGood, ifGoodBy, refuses}
 use borrow.Author.Needs.{needs}
 use Rattle.ridge.proofs.words.put_if_good.Statement.{statement}
 use Rattle.ridge.proofs.words.put_if_good.Tie as tie
@@ -32,27 +32,27 @@ same-length c = search needs
 
 -- src/words.rt:154:1
 returns : tie.Need-returns
-unfolding ifGood
+unfolding ifGoodBy refuses
 returns c = simp (c .before .before .before .before .enum-told .given .1, c .before .before .put .ensures)
 
 -- src/words.rt:154:1
 returns-2 : tie.Need-returns-2
-unfolding ifGood
+unfolding ifGoodBy refuses
 returns-2 c = search needs
 
 -- src/words.rt:154:1
 returns-3 : tie.Need-returns-3
-unfolding ifGood
+unfolding ifGoodBy refuses
 returns-3 c = search needs
 
 -- src/words.rt:154:1
 returns-4 : tie.Need-returns-4
-unfolding ifGood
+unfolding ifGoodBy refuses
 returns-4 c = search needs
 
 -- src/words.rt:154:1
 returns-5 : tie.Need-returns-5
-unfolding ifGood
+unfolding ifGoodBy refuses
 returns-5 c = search needs
 
 pub put-if-good-spec : {M : Type 1} → statement M

@@ -10,8 +10,8 @@ use Rattle.answers.specs.declared.Answer.the-variants.{Good, Unusable}
 use Rattle.answers.specs.Order.{ifGood, ifGoodBy, refuses}
 use Rattle.answers.proofs.OrderLaws.{row-pass, row-stop, row-end}
 use Rattle.map.specs.Valid.{capacityOk, slotsOk}
-use Rattle.reservations.specs.declared.Rights.{Rights}
-use Rattle.reservations.specs.Rights.{noRights}
+use Rattle.rights.specs.declared.Rights.{Rights}
+use Rattle.rights.specs.Rights.{noRights}
 use Rattle.commands.specs.Fresh.{freshUnit, freshAnswer, fresh}
 use Rattle.commands.specs.Contract.{made}
 

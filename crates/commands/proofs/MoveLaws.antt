@@ -18,7 +18,7 @@ use Rattle.map.specs.Pool.{Pool, free, unmapped, readBlocks, writeBlocks}
 use Rattle.map.specs.Write.{pool, roomFor, Written, written, tryWrite}
 use Rattle.map.proofs.Reading.{length-readBlocks}
 use Rattle.descriptors.specs.Descriptors.{considered, someFails, unmapAll}
-use Rattle.reservations.specs.Conflict.{conflict}
+use Rattle.rights.specs.Conflict.{conflict}
 use Rattle.forms.specs.declared.Move.{Move}
 use Rattle.forms.specs.declared.Move.the-variants.{Read, Write, Unmap}
 use Rattle.forms.specs.declared.Kind.the-variants.{Moves}

@@ -14,7 +14,7 @@ use Rattle.map.specs.declared.Checked.the-variants.{Valid, Beyond, Clash}
 use Rattle.map.specs.Valid.{capacityOk, slotsOk, mapOk, poolOk, checked}
 use Rattle.map.specs.Write.{pool}
 use Rattle.map.proofs.Clashes.{checked-valid, valid-checked}
-use Rattle.reservations.specs.Rights.{rightsOk}
+use Rattle.rights.specs.Rights.{rightsOk}
 use Rattle.commands.specs.declared.Unit.{Unit}
 use Rattle.commands.specs.Store.{Store, Call, unitOk, usable}
 use Rattle.commands.specs.Contract.{storeOf, callOf}

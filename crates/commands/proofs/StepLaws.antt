@@ -15,7 +15,7 @@ use Rattle.answers.specs.declared.Answer.the-variants.{Good, Refused, Conflict,
 use Rattle.answers.specs.Answers.{senseAfter}
 use Rattle.answers.specs.Order.{Row, _if_, first, next, ifGood, firstOf, ifGoodBy, refuses, refusing}
 use Rattle.answers.proofs.OrderLaws.{first-append, next-good, next-refuses}
-use Rattle.reservations.specs.declared.Action.the-variants.{Register, Reserve, Release, Clear, Preempt, RegisterIgnoring}
+use Rattle.rights.specs.declared.Action.the-variants.{Register, Reserve, Release, Clear, Preempt, RegisterIgnoring}
 use Rattle.forms.specs.declared.Tell.the-variants.{Ready, Inquiry, Capacity10, Capacity16, Keys, Reservation}
 use Rattle.forms.specs.declared.Move.the-variants.{Read, Write, Unmap}
 use Rattle.forms.specs.declared.Kind.{Kind}

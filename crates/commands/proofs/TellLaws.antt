@@ -17,10 +17,10 @@ use Rattle.answers.specs.declared.Answer.the-variants.{Good, Short}
 use Rattle.answers.specs.Answers.{listLength}
 use Rattle.answers.specs.Order.{_if_, first, ifGood, firstOf, ifGoodBy, refuses}
 use Rattle.answers.proofs.OrderLaws.{row-pass, row-stop, row-end}
-use Rattle.reservations.specs.declared.Rights.{Rights}
-use Rattle.reservations.specs.declared.Action.{Action}
-use Rattle.reservations.specs.Actions.{orderRows, decided}
-use Rattle.reservations.specs.Told.{keysData, reservationData}
+use Rattle.rights.specs.declared.Rights.{Rights}
+use Rattle.rights.specs.declared.Action.{Action}
+use Rattle.rights.specs.Actions.{decisionRows, decided}
+use Rattle.rights.specs.Told.{keysData, reservationData}
 use Rattle.forms.specs.declared.Tell.{Tell}
 use Rattle.forms.specs.declared.Tell.the-variants.{Ready, Inquiry, Capacity10, Capacity16, Keys, Reservation}
 use Rattle.forms.specs.declared.Kind.{Kind}
@@ -31,7 +31,7 @@ use Rattle.commands.specs.declared.Unit.{Unit}
 use Rattle.commands.specs.declared.Outcome.{Outcome}
 use Rattle.commands.specs.Store.{Store, Call}
 use Rattle.commands.specs.Tell.{inquiryData, capacity10Data, capacity16Data, available, told, tellRows}
-use Rattle.commands.specs.Alter.{orderOf, alterRows}
+use Rattle.commands.specs.Alter.{parametersOf, alterRows}
 use Rattle.commands.specs.Step.{ownRows, dataBy, storeBy}
 use Rattle.commands.specs.Contract.{storeOf, callOf}
 use Rattle.commands.specs.Parts.{asking, Replied, replyOf, cut, allowed, altered, altersTo, bare, served, servedBy}
@@ -192,7 +192,7 @@ module _ (f : Form) (a : Action) (r : Rights) (c : Call) (n : ℕ) (en : n ≡ s
   unfolding alterRows
   short-row e h = row-pass listLength _ _ (rw (← en, eq-eqb n 24 e)) ∙ row-stop Short _ _ (lt-ltb (length (c .dataOut)) 24 h)
 
-  order-row : n ≡ 24 → 24 ≤ length (c .dataOut) → first (alterRows f a r c) ≡ first (orderRows a r (c .nexus) (orderOf (c .cdb) (c .dataOut)))
+  order-row : n ≡ 24 → 24 ≤ length (c .dataOut) → first (alterRows f a r c) ≡ first (decisionRows a r (c .nexus) (parametersOf (c .cdb) (c .dataOut)))
   unfolding alterRows
   order-row e h = row-pass listLength _ _ (rw (← en, eq-eqb n 24 e)) ∙ row-pass Short _ _ (le-ltb (length (c .dataOut)) 24 h)
 
@@ -204,6 +204,6 @@ module _ (f : Form) (a : Action) (r : Rights) (c : Call) (n : ℕ) (en : n ≡ s
   unfolding altered ifGoodBy refuses
   alter-short e h = rw (short-row e h)
 
-  pub alter-decided : n ≡ 24 → 24 ≤ length (c .dataOut) → decided a r (c .nexus) (orderOf (c .cdb) (c .dataOut)) ≡ altered f a r c
+  pub alter-decided : n ≡ 24 → 24 ≤ length (c .dataOut) → decided a r (c .nexus) (parametersOf (c .cdb) (c .dataOut)) ≡ altered f a r c
   unfolding altered decided
   alter-decided e h = rw (order-row e h)

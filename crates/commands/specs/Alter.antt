@@ -9,17 +9,17 @@ use Rattle.fields.specs.Field.{field, byte, bit}
 use Rattle.answers.specs.declared.Answer.the-variants.{Short}
 use Rattle.answers.specs.Answers.{listLength}
 use Rattle.answers.specs.Order.{Row, _if_}
-use Rattle.reservations.specs.declared.Rights.{Rights}
-use Rattle.reservations.specs.declared.Action.{Action}
-use Rattle.reservations.specs.declared.Order.{Order}
-use Rattle.reservations.specs.Actions.{orderRows}
+use Rattle.rights.specs.declared.Rights.{Rights}
+use Rattle.rights.specs.declared.Action.{Action}
+use Rattle.rights.specs.declared.Parameters.{Parameters}
+use Rattle.rights.specs.Actions.{decisionRows}
 use Rattle.forms.specs.declared.Form.{Form}
 use Rattle.forms.specs.Forms.{sizeOf}
 use Rattle.commands.specs.Store.{Call}
 
 -- "Byte 2: … type low half. … List: key 0-7, service action key 8-15, byte 20 bits 3, 2, 0"
-unfoldable pub orderOf : List ℕ → List ℕ → Order
-orderOf cdb list = record {
+unfoldable pub parametersOf : List ℕ → List ℕ → Parameters
+parametersOf cdb list = record {
   kind = byte 2 cdb % 16;
   key = field 0 8 list;
   service = field 8 8 list;
@@ -31,4 +31,4 @@ unfoldable pub alterRows : Form → Action → Rights → Call → List Row
 alterRows f a r c =
     listLength if not (eqb (sizeOf f (c .cdb)) 24)
     ∷ Short if ltb (length (c .dataOut)) 24
-    ∷ orderRows a r (c .nexus) (orderOf (c .cdb) (c .dataOut))
+    ∷ decisionRows a r (c .nexus) (parametersOf (c .cdb) (c .dataOut))

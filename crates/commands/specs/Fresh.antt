@@ -9,7 +9,7 @@ use Rattle.answers.specs.declared.Answer.{Answer}
 use Rattle.answers.specs.declared.Answer.the-variants.{Unusable}
 use Rattle.answers.specs.Order.{Row, _if_, first, ifGood}
 use Rattle.map.specs.Valid.{capacityOk, slotsOk}
-use Rattle.reservations.specs.Rights.{noRights}
+use Rattle.rights.specs.Rights.{noRights}
 use Rattle.commands.specs.declared.Unit.{Unit}
 use Rattle.commands.specs.Store.{Store}
 

@@ -10,9 +10,9 @@ use Rattle.answers.specs.Answers.{outOfRange, listLength, listField, noRoom}
 use Rattle.answers.specs.Order.{Row, _if_}
 use Rattle.map.specs.Pool.{Pool, free, unmapped, readBlocks, writeBlocks}
 use Rattle.descriptors.specs.Descriptors.{considered, someFails, unmapAll}
-use Rattle.reservations.specs.declared.Access.{Access}
-use Rattle.reservations.specs.declared.Access.the-variants.{Reads, Writes}
-use Rattle.reservations.specs.Conflict.{conflict}
+use Rattle.rights.specs.declared.Access.{Access}
+use Rattle.rights.specs.declared.Access.the-variants.{Reads, Writes}
+use Rattle.rights.specs.Conflict.{conflict}
 use Rattle.forms.specs.declared.Move.{Move}
 use Rattle.forms.specs.declared.Move.the-variants.{Read, Write, Unmap}
 use Rattle.forms.specs.declared.Form.{Form}

@@ -9,10 +9,10 @@ use lib.ListN.{length, take}
 use Rattle.fields.specs.Bytes.{put}
 use Rattle.answers.specs.declared.Answer.{Answer}
 use Rattle.answers.specs.Order.{first, ifGood}
-use Rattle.reservations.specs.declared.Rights.{Rights}
-use Rattle.reservations.specs.declared.Action.{Action}
-use Rattle.reservations.specs.declared.Decision.{Decision}
-use Rattle.reservations.specs.Actions.{acted}
+use Rattle.rights.specs.declared.Rights.{Rights}
+use Rattle.rights.specs.declared.Action.{Action}
+use Rattle.rights.specs.declared.Decision.{Decision}
+use Rattle.rights.specs.Actions.{acted}
 use Rattle.forms.specs.declared.Kind.{Kind}
 use Rattle.forms.specs.declared.Form.{Form}
 use Rattle.forms.specs.Forms.{sizeOf}
@@ -21,7 +21,7 @@ use Rattle.commands.specs.declared.Unit.{Unit}
 use Rattle.commands.specs.declared.Outcome.{Outcome}
 use Rattle.commands.specs.declared.reply.Reply.{Reply}
 use Rattle.commands.specs.Store.{Store, Call, usable}
-use Rattle.commands.specs.Alter.{orderOf, alterRows}
+use Rattle.commands.specs.Alter.{parametersOf, alterRows}
 use Rattle.commands.specs.Step.{ownRows, dataBy, storeBy}
 use Rattle.commands.specs.Contract.{storeOf, callOf}
 
@@ -83,7 +83,7 @@ settles a done kept = record { answer = a; after = ifGood a done kept }
 unfoldable pub altered : Form → Action → Rights → Call → Decision
 altered f a r c = record {
   answer = first (alterRows f a r c);
-  rights = ifGood (first (alterRows f a r c)) (acted a r (c .nexus) (orderOf (c .cdb) (c .dataOut))) r;
+  rights = ifGood (first (alterRows f a r c)) (acted a r (c .nexus) (parametersOf (c .cdb) (c .dataOut))) r;
 }
 
 -- the outcome of a reply

@@ -8,7 +8,7 @@ use lib.ListN.{length}
 use Rattle.answers.specs.declared.Answer.{Answer}
 use Rattle.answers.specs.declared.Answer.the-variants.{Unusable}
 use Rattle.answers.specs.Order.{Row, _if_, first, ifGood}
-use Rattle.reservations.specs.Actions.{acted}
+use Rattle.rights.specs.Actions.{acted}
 use Rattle.forms.specs.declared.Kind.{Kind}
 use Rattle.forms.specs.declared.Kind.the-variants.{Tells, Moves, Alters, Unknown, Unlisted}
 use Rattle.forms.specs.declared.Form.{Form}
@@ -18,7 +18,7 @@ use Rattle.commands.specs.declared.Unit.{Unit}
 use Rattle.commands.specs.Store.{Store, Call, Seen, Result, usable, seenOf}
 use Rattle.commands.specs.Tell.{told, tellRows}
 use Rattle.commands.specs.Move.{moveRows, moved, fetched}
-use Rattle.commands.specs.Alter.{orderOf, alterRows}
+use Rattle.commands.specs.Alter.{parametersOf, alterRows}
 
 -- "First 11: nexus above 15, empty CDB, sense buffer under 18 bytes"
 unfoldable pub callRows : Call → List Row
@@ -58,7 +58,7 @@ unfoldable pub storeBy : Form → Kind → Store → Call → Store
 storeBy f (Tells t) s c = s
 storeBy f (Moves m) s c = record { unit = s .unit; pool = moved f m (s .pool) c }
 storeBy f (Alters a) s c = record {
-  unit = record { capacity = s .unit .capacity; rights = acted a (s .unit .rights) (c .nexus) (orderOf (c .cdb) (c .dataOut)) };
+  unit = record { capacity = s .unit .capacity; rights = acted a (s .unit .rights) (c .nexus) (parametersOf (c .cdb) (c .dataOut)) };
   pool = s .pool;
 }
 storeBy f Unknown s c = s

@@ -10,7 +10,7 @@ use Rattle.answers.specs.Answers.{senseAfter}
 use Rattle.answers.specs.Order.{ifGood}
 use Rattle.map.specs.Pool.{Pool}
 use Rattle.map.specs.Valid.{capacityOk, poolOk}
-use Rattle.reservations.specs.Rights.{rightsOk}
+use Rattle.rights.specs.Rights.{rightsOk}
 use Rattle.commands.specs.declared.Unit.{Unit}
 
 -- what everybody may know, and the blocks

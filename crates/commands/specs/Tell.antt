@@ -9,7 +9,7 @@ use Rattle.fields.specs.Bytes.{zeros}
 use Rattle.fields.specs.Field.{bytes}
 use Rattle.answers.specs.declared.Answer.the-variants.{Short}
 use Rattle.answers.specs.Order.{Row, _if_}
-use Rattle.reservations.specs.Told.{keysData, reservationData}
+use Rattle.rights.specs.Told.{keysData, reservationData}
 use Rattle.forms.specs.declared.Tell.{Tell}
 use Rattle.forms.specs.declared.Tell.the-variants.{Ready, Inquiry, Capacity10, Capacity16, Keys, Reservation}
 use Rattle.forms.specs.declared.Form.{Form}

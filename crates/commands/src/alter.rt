@@ -3,7 +3,7 @@ ghost use mathlib.Core.Path.{_≡_};
 ghost use mathlib.Core.Bool.{_||_};
 ghost use Rattle.fields.specs.Field.{bit};
 ghost use Rattle.forms.specs.Sound.{Sound};
-ghost use Rattle.commands.specs.Alter.{orderOf};
+ghost use Rattle.commands.specs.Alter.{parametersOf};
 ghost use Rattle.commands.specs.Contract.{callOf};
 ghost use Rattle.commands.specs.Parts.{altered};
 ghost use mathlib.Core.List.{[]};
@@ -29,7 +29,7 @@ fn flagged(b: u8) -> bool
 }
 
 fn order_of(cdb: &[u8], list: &[u8]) -> Order
-    ensures { λ r. ⌜ r ≡ orderOf (now (cdb .entry)) (now (list .entry)) ⌝ }
+    ensures { λ r. ⌜ r ≡ parametersOf (now (cdb .entry)) (now (list .entry)) ⌝ }
 {
     let kind = numbers::byte(cdb, 2) % 16;
     let key = numbers::number(list, 0, 8);

@@ -16,12 +16,12 @@ use Rattle.answers.specs.declared.Answer.the-variants.{Good, Refused, Conflict,
 use Rattle.answers.specs.Answers.{senses, sameSense, rowOf, numberOf, fixedFormat, senseAfter}
 use Rattle.answers.specs.Order.{Row, _if_, first, ifGood, firstOf, ifGoodBy, refuses}
 use Rattle.answers.proofs.OrderLaws.{if-refused}
-use Rattle.reservations.specs.declared.Action.{Action}
-use Rattle.reservations.specs.declared.Action.the-variants.{Register, Reserve, Release, Clear, Preempt, RegisterIgnoring}
-use Rattle.reservations.specs.declared.Rights.{Rights}
-use Rattle.reservations.specs.declared.Order.{Order}
-use Rattle.reservations.specs.Rights.{isOneOf}
-use Rattle.reservations.specs.Actions.{actionRows, orderRows}
+use Rattle.rights.specs.declared.Action.{Action}
+use Rattle.rights.specs.declared.Action.the-variants.{Register, Reserve, Release, Clear, Preempt, RegisterIgnoring}
+use Rattle.rights.specs.declared.Rights.{Rights}
+use Rattle.rights.specs.declared.Parameters.{Parameters}
+use Rattle.rights.specs.Rights.{isOneOf}
+use Rattle.rights.specs.Actions.{actionRows, decisionRows}
 use Rattle.forms.specs.declared.Tell.the-variants.{Ready, Inquiry, Capacity10, Capacity16, Keys, Reservation}
 use Rattle.forms.specs.declared.Move.the-variants.{Read, Write, Unmap}
 use Rattle.forms.specs.declared.Kind.{Kind}
@@ -63,7 +63,7 @@ append-listed [] ys s t = t
 append-listed ((a if b) ∷ xs) ys s t =
     both (listed a) (allListed (xs ++ ys)) (and-l (listed a) (allListed xs) s) (append-listed xs ys (and-r (listed a) (allListed xs) s) t)
 
-action-listed : (a : Action) (r : Rights) (n : ℕ) (o : Order) → T (allListed (actionRows a r n o))
+action-listed : (a : Action) (r : Rights) (n : ℕ) (o : Parameters) → T (allListed (actionRows a r n o))
 unfolding actionRows allListed listed isOneOf numberOf rowOf senses sameSense
 action-listed Register r n o = tt
 action-listed Reserve r n o = tt
@@ -73,7 +73,7 @@ action-listed Preempt r n o = tt
 action-listed RegisterIgnoring r n o = tt
 
 alter-listed : (f : Form) (a : Action) (r : Rights) (c : Call) → T (allListed (alterRows f a r c))
-unfolding alterRows orderRows allListed listed isOneOf numberOf rowOf senses sameSense
+unfolding alterRows decisionRows allListed listed isOneOf numberOf rowOf senses sameSense
 alter-listed f a r c = action-listed a r (c .nexus) _
 
 own-listed : (f : Form) (k : Kind) (s : Store) (c : Call) → T (allListed (ownRows f k s c))

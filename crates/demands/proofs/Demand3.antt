@@ -14,12 +14,12 @@ use Rattle.answers.specs.Order.{first, ifGood, ifGoodBy, refuses}
 use Rattle.answers.proofs.OrderLaws.{row-stop, if-refused}
 use Rattle.map.specs.Valid.{slotsOk}
 use Rattle.map.proofs.Keeping.{poolOk-of, mapOk-zeros}
-use Rattle.reservations.specs.declared.Rights.{Rights}
-use Rattle.reservations.specs.declared.Access.{Access}
-use Rattle.reservations.specs.declared.Access.the-variants.{Reads, Writes}
-use Rattle.reservations.specs.Rights.{isOneOf}
-use Rattle.reservations.specs.Conflict.{passes, stops, conflict, shutOut}
-use Rattle.reservations.specs.Actions.{acted}
+use Rattle.rights.specs.declared.Rights.{Rights}
+use Rattle.rights.specs.declared.Access.{Access}
+use Rattle.rights.specs.declared.Access.the-variants.{Reads, Writes}
+use Rattle.rights.specs.Rights.{isOneOf}
+use Rattle.rights.specs.Conflict.{passes, stops, conflict, shutOut}
+use Rattle.rights.specs.Actions.{acted}
 use Rattle.forms.specs.declared.Move.{Move}
 use Rattle.forms.specs.declared.Kind.{Kind}
 use Rattle.forms.specs.declared.Kind.the-variants.{Tells, Moves, Alters, Unknown, Unlisted}
@@ -30,7 +30,7 @@ use Rattle.commands.specs.declared.Unit.{Unit}
 use Rattle.commands.specs.Store.{Store, Call, Seen, usable, seenOf}
 use Rattle.commands.specs.Tell.{told, tellRows}
 use Rattle.commands.specs.Move.{access, moveRows}
-use Rattle.commands.specs.Alter.{orderOf, alterRows}
+use Rattle.commands.specs.Alter.{parametersOf, alterRows}
 use Rattle.commands.specs.Step.{ownRows, answerBy, dataBy, storeBy, stepBy, step}
 use Rattle.demands.specs.History.{after, isOut, isShutOut, kept, add, watched, heard}
 use Rattle.demands.specs.Demands.{Demand3}
@@ -93,7 +93,7 @@ module _ (f : Form) (s t : Store) (c : Call) (e : s .unit ≡ t .unit) where
   unit-done (Tells x) = e
   unit-done (Moves m) = e
   unit-done (Alters a) =
-      ap (λ (u : Unit). record { capacity = u .capacity; rights = acted a (u .rights) (c .nexus) (orderOf (c .cdb) (c .dataOut)) }) e
+      ap (λ (u : Unit). record { capacity = u .capacity; rights = acted a (u .rights) (c .nexus) (parametersOf (c .cdb) (c .dataOut)) }) e
   unit-done Unknown = e
   unit-done Unlisted = e
 

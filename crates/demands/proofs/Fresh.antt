@@ -15,8 +15,8 @@ use Rattle.answers.specs.Order.{_if_, first, next, ifGood, firstOf, ifGoodBy, n
 use Rattle.answers.proofs.OrderLaws.{row-stop}
 use Rattle.map.specs.Valid.{capacityOk, slotsOk}
 use Rattle.map.proofs.Keeping.{poolOk-of, mapOk-zeros}
-use Rattle.reservations.specs.Places.{used, registered}
-use Rattle.reservations.specs.Rights.{noRights, placeOk, placesApart, placesOk, stands, rightsOk}
+use Rattle.rights.specs.Places.{used, registered}
+use Rattle.rights.specs.Rights.{noRights, placeOk, placesApart, placesOk, stands, rightsOk}
 use Rattle.forms.specs.Forms.{formOf}
 use Rattle.forms.specs.Tests.{formRows}
 use Rattle.commands.specs.Store.{Store, Call, usable, seenOf}

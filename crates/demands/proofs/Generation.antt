@@ -9,11 +9,11 @@ use Rattle.fields.specs.Field.{byte}
 use Rattle.fields.proofs.Tests.{and-l, test}
 use Rattle.answers.specs.declared.Answer.the-variants.{Good}
 use Rattle.answers.proofs.OrderLaws.{if-good}
-use Rattle.reservations.specs.declared.Rights.{Rights}
-use Rattle.reservations.specs.declared.Order.{Order}
-use Rattle.reservations.specs.Places.{registered}
-use Rattle.reservations.specs.Rights.{isOneOf}
-use Rattle.reservations.proofs.Generation.{raises, nextGeneration, acted-generation}
+use Rattle.rights.specs.declared.Rights.{Rights}
+use Rattle.rights.specs.declared.Parameters.{Parameters}
+use Rattle.rights.specs.Places.{registered}
+use Rattle.rights.specs.Rights.{isOneOf}
+use Rattle.rights.proofs.Generation.{raises, nextGeneration, acted-generation}
 use Rattle.forms.specs.declared.Kind.{Kind}
 use Rattle.forms.specs.declared.Kind.the-variants.{Tells, Moves, Alters, Unknown, Unlisted}
 use Rattle.forms.specs.declared.Form.{Form}
@@ -21,7 +21,7 @@ use Rattle.forms.specs.Forms.{form, absent, takes, lines, lookup, action, formF
 use Rattle.forms.proofs.Table.{taken, passed, lookup-passes}
 use Rattle.commands.specs.declared.Unit.{Unit}
 use Rattle.commands.specs.Store.{Store, Call, seenOf}
-use Rattle.commands.specs.Alter.{orderOf}
+use Rattle.commands.specs.Alter.{parametersOf}
 use Rattle.commands.specs.Step.{answerBy, storeBy, stepBy, step}
 use Rattle.demands.specs.History.{after, isOut}
 use Rattle.demands.specs.Generation.{generation, serviceKey, actionRaises, raising}
@@ -30,7 +30,7 @@ use Rattle.demands.proofs.Demand3.{other-unit}
 
 -- ---- what is done raises the generation by its kind
 
-unfoldable raisesAs : Kind → Rights → ℕ → Order → Bool
+unfoldable raisesAs : Kind → Rights → ℕ → Parameters → Bool
 raisesAs (Tells t) r n o = false
 raisesAs (Moves m) r n o = false
 raisesAs (Alters a) r n o = raises a r n o
@@ -39,11 +39,11 @@ raisesAs Unlisted r n o = false
 
 done-generation : (f : Form) (k : Kind) (s : Store) (c : Call)
     → generation (storeBy f k s c)
-    ≡ cond (raisesAs k (s .unit .rights) (c .nexus) (orderOf (c .cdb) (c .dataOut))) (nextGeneration (generation s)) (generation s)
+    ≡ cond (raisesAs k (s .unit .rights) (c .nexus) (parametersOf (c .cdb) (c .dataOut))) (nextGeneration (generation s)) (generation s)
 unfolding storeBy generation raisesAs
 done-generation f (Tells t) s c = refl
 done-generation f (Moves m) s c = refl
-done-generation f (Alters a) s c = acted-generation a (s .unit .rights) (c .nexus) (orderOf (c .cdb) (c .dataOut))
+done-generation f (Alters a) s c = acted-generation a (s .unit .rights) (c .nexus) (parametersOf (c .cdb) (c .dataOut))
 done-generation f Unknown s c = refl
 done-generation f Unlisted s c = refl
 
@@ -66,7 +66,7 @@ other-form a e0 e1 e2 e3 e4 e6 =
         → (b0 || (b1 || (b2 || (b3 || (b4 || (b6 || false)))))) ≡ false
     untaken b0 b1 b2 b3 b4 b6 e0 e1 e2 e3 e4 e6 = rw (e0, e1, e2, e3, e4, e6) refl
 
-module _ (r : Rights) (n : ℕ) (o : Order) where
+module _ (r : Rights) (n : ℕ) (o : Parameters) where
   abbrev Said : ℕ → Type 0
   Said a = raisesAs (formFor 0x5F a .kind) r n o ≡ actionRaises a (registered n (r .places)) (eqb (o .service) 0)
 
@@ -120,11 +120,11 @@ unit-generation s t e = ap (λ (u : Unit). u .rights .generation) e
 
 -- the generation where a reservation-out call is done
 out-raises : (s : Store) (c : Call) → T (isOut c)
-    → raisesAs (formOf (c .cdb) .kind) (s .unit .rights) (c .nexus) (orderOf (c .cdb) (c .dataOut)) ≡ raising s c
-unfolding isOut raising serviceKey orderOf formOf
+    → raisesAs (formOf (c .cdb) .kind) (s .unit .rights) (c .nexus) (parametersOf (c .cdb) (c .dataOut)) ≡ raising s c
+unfolding isOut raising serviceKey parametersOf formOf
 out-raises s c h =
-    ap (λ (m : ℕ). raisesAs (formFor m (action (c .cdb)) .kind) (s .unit .rights) (c .nexus) (orderOf (c .cdb) (c .dataOut))) (eqb→eq (byte 0 (c .cdb)) 0x5F h)
-    ∙ said (s .unit .rights) (c .nexus) (orderOf (c .cdb) (c .dataOut)) (action (c .cdb)) _ _ _ _ _ _ refl refl refl refl refl refl
+    ap (λ (m : ℕ). raisesAs (formFor m (action (c .cdb)) .kind) (s .unit .rights) (c .nexus) (parametersOf (c .cdb) (c .dataOut))) (eqb→eq (byte 0 (c .cdb)) 0x5F h)
+    ∙ said (s .unit .rights) (c .nexus) (parametersOf (c .cdb) (c .dataOut)) (action (c .cdb)) _ _ _ _ _ _ refl refl refl refl refl refl
     ∙ in-front (eqb (byte 0 (c .cdb)) 0x5F) _ h
   where
     in-front : (b x : Bool) → T b → x ≡ b && x

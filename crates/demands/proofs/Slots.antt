@@ -17,7 +17,7 @@ use Rattle.map.specs.Valid.{capacityOk, slotsOk, poolOk}
 use Rattle.map.proofs.Keeping.{mapOk-distinct, poolOk-map, poolOk-unmapBlocks}
 use Rattle.map.proofs.Alike.{Alike, alike-self, alike-back, alike-through, alike-unmapped, alike-reads, alike-write, alike-unmap}
 use Rattle.descriptors.specs.declared.Descriptor.{Descriptor}
-use Rattle.reservations.specs.Actions.{acted}
+use Rattle.rights.specs.Actions.{acted}
 use Rattle.forms.specs.declared.Move.{Move}
 use Rattle.forms.specs.declared.Move.the-variants.{Read, Write, Unmap}
 use Rattle.forms.specs.declared.Kind.{Kind}
@@ -28,7 +28,7 @@ use Rattle.commands.specs.declared.Unit.{Unit}
 use Rattle.commands.specs.Store.{Store, Call, Seen, usable, seenOf}
 use Rattle.commands.specs.Tell.{told, tellRows}
 use Rattle.commands.specs.Move.{rangeRows, moveRows, moved, fetched}
-use Rattle.commands.specs.Alter.{orderOf, alterRows}
+use Rattle.commands.specs.Alter.{parametersOf, alterRows}
 use Rattle.commands.specs.Fresh.{freshStore}
 use Rattle.commands.specs.Step.{ownRows, answerBy, dataBy, storeBy, stepBy, step}
 use Rattle.demands.specs.History.{after}
@@ -124,7 +124,7 @@ module _ (s t : Store) (c : Call) (u : T (usable s)) (v : T (usable t)) (e : Sam
   done-same (Alters x) a =
       carry Same _ _ _ _ (done-after (Alters x) s c a g) (done-after (Alters x) t c a h)
       (record {
-        unit = ap (λ (u : Unit). record { capacity = u .capacity; rights = acted x (u .rights) (c .nexus) (orderOf (c .cdb) (c .dataOut)) }) (e .unit);
+        unit = ap (λ (u : Unit). record { capacity = u .capacity; rights = acted x (u .rights) (c .nexus) (parametersOf (c .cdb) (c .dataOut)) }) (e .unit);
         pool = e .pool;
       })
   done-same Unknown a = carry Same _ _ s t (done-after Unknown s c a g) (done-after Unknown t c a h) e

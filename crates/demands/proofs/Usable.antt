@@ -17,12 +17,12 @@ use Rattle.map.specs.Pool.{Pool, writeBlocks, unmapBlocks}
 use Rattle.map.specs.Valid.{capacityOk, poolOk}
 use Rattle.map.proofs.Keeping.{poolOk-writeBlocks, poolOk-unmapBlocks, length-assignBlocks, length-putBlocks, length-unmapOwners}
 use Rattle.descriptors.specs.Descriptors.{descriptorAt, unmapAll}
-use Rattle.reservations.specs.declared.Action.{Action}
-use Rattle.reservations.specs.declared.Action.the-variants.{Register, Reserve, Release, Clear, Preempt, RegisterIgnoring}
-use Rattle.reservations.specs.declared.Rights.{Rights}
-use Rattle.reservations.specs.Rights.{isType, rightsOk}
-use Rattle.reservations.specs.Actions.{orderRows, acted}
-use Rattle.reservations.proofs.Keeping.{makes, acted-keeps}
+use Rattle.rights.specs.declared.Action.{Action}
+use Rattle.rights.specs.declared.Action.the-variants.{Register, Reserve, Release, Clear, Preempt, RegisterIgnoring}
+use Rattle.rights.specs.declared.Rights.{Rights}
+use Rattle.rights.specs.Rights.{isType, rightsOk}
+use Rattle.rights.specs.Actions.{decisionRows, acted}
+use Rattle.rights.proofs.Keeping.{makes, acted-keeps}
 use Rattle.forms.specs.declared.Move.{Move}
 use Rattle.forms.specs.declared.Move.the-variants.{Read, Write, Unmap}
 use Rattle.forms.specs.declared.Kind.{Kind}
@@ -33,7 +33,7 @@ use Rattle.forms.specs.Tests.{typeRows, fieldRows, formRows}
 use Rattle.commands.specs.declared.Unit.{Unit}
 use Rattle.commands.specs.Store.{Store, Call, unitOk, usable}
 use Rattle.commands.specs.Move.{pastEnd, rangeRows, moveRows, moved}
-use Rattle.commands.specs.Alter.{orderOf, alterRows}
+use Rattle.commands.specs.Alter.{parametersOf, alterRows}
 use Rattle.commands.specs.Step.{ownRows, answerBy, storeBy, stepBy, step}
 use Rattle.demands.specs.History.{after}
 use Rattle.demands.proofs.Parts.{answerAs, good-nexus, good-form, good-own, either-store}
@@ -125,15 +125,15 @@ maker-type f Preempt cdb e m = type-right cdb e
 maker-type f RegisterIgnoring cdb e m = absurd m
 
 order-good : (f : Form) (a : Action) (r : Rights) (c : Call) → first (alterRows f a r c) ≡ Good
-    → first (orderRows a r (c .nexus) (orderOf (c .cdb) (c .dataOut))) ≡ Good
+    → first (decisionRows a r (c .nexus) (parametersOf (c .cdb) (c .dataOut))) ≡ Good
 unfolding alterRows refuses
 order-good f a r c e = rows-after Short _ _ tt (rows-after listLength _ _ tt e)
 
 altered-ok : (f : Form) (a : Action) (r : Rights) (c : Call) → T (rightsOk r) → c .nexus ≤ 15 → first (formRows f (Alters a) (c .cdb)) ≡ Good
-    → first (alterRows f a r c) ≡ Good → T (rightsOk (acted a r (c .nexus) (orderOf (c .cdb) (c .dataOut))))
-unfolding orderOf
+    → first (alterRows f a r c) ≡ Good → T (rightsOk (acted a r (c .nexus) (parametersOf (c .cdb) (c .dataOut))))
+unfolding parametersOf
 altered-ok f a r c t n e d =
-    acted-keeps a r (c .nexus) (orderOf (c .cdb) (c .dataOut)) t n (order-good f a r c d) (maker-type f a (c .cdb) (form-fields f (Alters a) (c .cdb) e))
+    acted-keeps a r (c .nexus) (parametersOf (c .cdb) (c .dataOut)) t n (order-good f a r c d) (maker-type f a (c .cdb) (form-fields f (Alters a) (c .cdb) e))
 
 -- ---- a call
 

@@ -16,9 +16,9 @@ use Rattle.answers.proofs.OrderLaws.{row-pass, row-stop, row-end, row-fails, ro
 use Rattle.map.specs.Pool.{free, unmapped}
 use Rattle.map.specs.Valid.{capacityOk, slotsOk}
 use Rattle.descriptors.specs.Descriptors.{considered, someFails}
-use Rattle.reservations.specs.declared.Access.the-variants.{Reads}
-use Rattle.reservations.specs.Conflict.{conflict, stops}
-use Rattle.reservations.specs.Rights.{isOneOf, noRights}
+use Rattle.rights.specs.declared.Access.the-variants.{Reads}
+use Rattle.rights.specs.Conflict.{conflict, stops}
+use Rattle.rights.specs.Rights.{isOneOf, noRights}
 use Rattle.forms.specs.declared.Move.{Move}
 use Rattle.forms.specs.declared.Move.the-variants.{Read, Write, Unmap}
 use Rattle.forms.specs.declared.Kind.{Kind}

@@ -5,8 +5,8 @@ use Prim.Native.Nat.{ℕ, _+_}
 use lib.ListN.{replicate}
 use Rattle.fields.specs.Bytes.{zeros}
 use Rattle.fields.specs.Field.{bytes}
-use Rattle.reservations.specs.declared.Place.{Place}
-use Rattle.reservations.specs.Places.{unused}
+use Rattle.rights.specs.declared.Place.{Place}
+use Rattle.rights.specs.Places.{unused}
 use Rattle.commands.specs.Store.{Store, Call}
 use Rattle.commands.specs.Fresh.{freshStore}
 

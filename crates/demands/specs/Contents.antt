@@ -15,7 +15,7 @@ use Rattle.map.specs.Pool.{Pool, free, unmapped, unmapBlocks}
 use Rattle.map.proofs.Alike.{Alike}
 use Rattle.descriptors.specs.declared.Descriptor.{Descriptor}
 use Rattle.descriptors.specs.Descriptors.{descriptorAt, considered}
-use Rattle.reservations.specs.Conflict.{conflict}
+use Rattle.rights.specs.Conflict.{conflict}
 use Rattle.forms.specs.declared.Move.{Move}
 use Rattle.forms.specs.declared.Move.the-variants.{Read, Write, Unmap}
 use Rattle.forms.specs.declared.Kind.the-variants.{Moves}

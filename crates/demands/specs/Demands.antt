@@ -10,7 +10,7 @@ use lib.ListN.{length, drop, take}
 use Rattle.fields.specs.Bytes.{zeros}
 use Rattle.answers.specs.declared.Answer.the-variants.{Good, Unusable}
 use Rattle.answers.specs.Answers.{numberOf, senseAfter}
-use Rattle.reservations.specs.Rights.{isOneOf}
+use Rattle.rights.specs.Rights.{isOneOf}
 use Rattle.map.specs.declared.Checked.the-variants.{Valid}
 use Rattle.map.specs.Pool.{readBlock}
 use Rattle.map.specs.Valid.{checked}

@@ -3,7 +3,7 @@
 use mathlib.Core.List.{List, [], _∷_, _++_}
 use Rattle.fields.specs.Bytes.{zeros}
 use Rattle.fields.specs.Field.{bytes}
-use Rattle.reservations.specs.Places.{unused}
+use Rattle.rights.specs.Places.{unused}
 use Rattle.demands.specs.Checker.{good, refused, conflicts, no-status, Case, _gives_}
 use Rattle.demands.specs.Bench.{block, at, two, eight, made, call, read-10, read-16, write-10, write-16, unmap-list, descriptor, out, in-call}
 use Rattle.demands.specs.Cases.{caseOf, caseNew}

@@ -5,8 +5,8 @@ use mathlib.Core.List.{[], _∷_}
 use Prim.Native.Nat.{ℕ}
 use lib.Dec.{eqb}
 use Rattle.fields.specs.Field.{field}
-use Rattle.reservations.specs.Places.{registered}
-use Rattle.reservations.specs.Rights.{isOneOf}
+use Rattle.rights.specs.Places.{registered}
+use Rattle.rights.specs.Rights.{isOneOf}
 use Rattle.forms.specs.Forms.{action}
 use Rattle.commands.specs.Store.{Store, Call}
 use Rattle.demands.specs.History.{isOut}

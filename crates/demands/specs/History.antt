@@ -4,7 +4,7 @@ use mathlib.Core.Bool.{Bool, true, false, _||_}
 use mathlib.Core.List.{List, [], _∷_}
 use lib.Dec.{eqb}
 use Rattle.fields.specs.Field.{byte}
-use Rattle.reservations.specs.Conflict.{shutOut}
+use Rattle.rights.specs.Conflict.{shutOut}
 use Rattle.commands.specs.Store.{Store, Call, Seen, Result}
 
 -- a build: what it makes of each call on each store

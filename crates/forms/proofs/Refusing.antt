@@ -3,7 +3,7 @@
 use mathlib.Core.List.{List}
 use Prim.Native.Nat.{ℕ}
 use lib.Dec.{T}
-use Rattle.reservations.specs.declared.Action.the-variants.{Register, Reserve, Release, Clear, Preempt, RegisterIgnoring}
+use Rattle.rights.specs.declared.Action.the-variants.{Register, Reserve, Release, Clear, Preempt, RegisterIgnoring}
 use Rattle.forms.specs.declared.Tell.the-variants.{Ready, Inquiry, Capacity10, Capacity16, Keys, Reservation}
 use Rattle.forms.specs.declared.Move.the-variants.{Read, Write, Unmap}
 use Rattle.forms.specs.declared.Kind.{Kind}

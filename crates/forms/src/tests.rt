@@ -3,7 +3,7 @@ ghost use mathlib.Core.Path.{_≡_};
 ghost use Prim.Native.Nat.{_≤_, _-_};
 ghost use Rattle.fields.specs.Field.{byte, bit};
 ghost use Rattle.answers.specs.Order.{first};
-ghost use Rattle.reservations.specs.Rights.{isType};
+ghost use Rattle.rights.specs.Rights.{isType};
 ghost use Rattle.forms.specs.declared.Form.{Form as FormOf};
 ghost use Rattle.forms.specs.declared.Kind.the-variants.{Tells, Moves, Alters};
 ghost use Rattle.forms.specs.Sound.{Sound};

@@ -8,9 +8,9 @@ use native.Mathlib.Numerals.{add-one}
 use native.Mathlib.Omega.{arith}
 use lib.ListN.{length, length-map, getD, set, drop}
 use lib.Seq.{drop-cons, drop-length}
-use Rattle.reservations.specs.declared.Place.{Place}
-use Rattle.reservations.specs.Places.{unused}
-use Rattle.reservations.specs.Rights.{placesApart}
+use Rattle.rights.specs.declared.Place.{Place}
+use Rattle.rights.specs.Places.{unused}
+use Rattle.rights.specs.Rights.{placesApart}
 use Rattle.reservations.specs.Search.{soundBefore}
 
 -- ---- a function put to each element in place

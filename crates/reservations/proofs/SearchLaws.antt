@@ -10,10 +10,10 @@ use lib.Dec.{ltb, leb·suc-suc}
 use lib.ListN.{length, length-drop, getD, set, drop}
 use lib.Seq.{drop-cons, drop-length}
 use borrow.Author.Tests.{lt-ltb, le-ltb, ltb-true, ltb-false}
-use Rattle.reservations.specs.declared.Place.{Place}
+use Rattle.rights.specs.declared.Place.{Place}
 use Rattle.reservations.specs.declared.places.Want.{Want}
 use Rattle.reservations.specs.declared.places.Want.the-variants.{Of, Keyed, Used, Free}
-use Rattle.reservations.specs.Places.{used, unused, isOf, registered, keyOf, somebody, vacant, known, enrol}
+use Rattle.rights.specs.Places.{used, unused, isOf, registered, keyOf, somebody, vacant, known, enrol}
 use Rattle.reservations.specs.Search.{wants, seek, has}
 
 -- ---- turns of the search

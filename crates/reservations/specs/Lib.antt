@@ -1,7 +1,1 @@
-pub mod Places
-pub mod Rights
-pub mod Conflict
-pub mod Actions
-pub mod Told
 pub mod Search
-pub mod Page

@@ -4,16 +4,13 @@ use mathlib.Core.Bool.{Bool, not, _&&_, cond}
 use mathlib.Core.List.{List, [], _∷_}
 use Prim.Native.Nat.{ℕ, suc}
 use lib.Dec.{eqb}
-use Rattle.answers.specs.Order.{Row, first, ifGood}
-use Rattle.reservations.specs.declared.Place.{Place}
-use Rattle.reservations.specs.declared.Rights.{Rights}
-use Rattle.reservations.specs.declared.Decision.{Decision}
+use Rattle.rights.specs.declared.Place.{Place}
 use Rattle.reservations.specs.declared.places.Want.{Want}
 use Rattle.reservations.specs.declared.places.Want.the-variants.{Of, Keyed, Used, Free}
 use Rattle.reservations.specs.declared.places.Change.{Change}
 use Rattle.reservations.specs.declared.places.Change.the-variants.{Rekey, Remove, RemoveBut, Empty}
-use Rattle.reservations.specs.Rights.{placeOk}
-use Rattle.reservations.specs.Places.{used, unused, isOf, registered, known, somebody, vacant, rekeyed, without, nobody, sender}
+use Rattle.rights.specs.Rights.{placeOk}
+use Rattle.rights.specs.Places.{used, unused, isOf, registered, known, somebody, vacant, rekeyed, without, nobody, sender}
 
 -- is this place wanted
 unfoldable pub wants : Want → Place → Bool
@@ -44,7 +41,3 @@ after Empty = λ p. unused
 -- a place that holds what it may, and whose nexus no later place has
 unfoldable pub soundBefore : Place → List Place → Bool
 soundBefore p ps = placeOk p && not (used p && registered (p .nexus) ps)
-
--- what an order of tests decides: a refusal leaves the rights as they are
-unfoldable pub decidedBy : List Row → Rights → Rights → Decision
-decidedBy rows done kept = record { answer = first rows; rights = ifGood (first rows) done kept }

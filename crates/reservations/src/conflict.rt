@@ -1,14 +1,14 @@
 // The conflict rule.
 ghost use mathlib.Core.Path.{_≡_};
 ghost use mathlib.Core.List.{[], _∷_};
-ghost use Rattle.reservations.specs.Rights.{isOneOf};
-ghost use Rattle.reservations.specs.Conflict.{passes, stops, conflict};
-use crate::Access;
-use crate::Rights;
+ghost use Rattle.rights.specs.Rights.{isOneOf};
+ghost use Rattle.rights.specs.Conflict.{passes, stops, conflict};
 use crate::kinds;
 use crate::places;
 use crate::places::Want;
 use crate::standing;
+use rights::Access;
+use rights::Rights;
 
 // Whether the reservation does not stop a nexus, whatever it wants.
 fn passes(rights: Rights, nexus: u8) -> bool

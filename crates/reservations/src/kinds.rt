@@ -1,7 +1,7 @@
 // The types of a reservation.
 ghost use mathlib.Core.Path.{_≡_};
 ghost use mathlib.Core.List.{[], _∷_};
-ghost use Rattle.reservations.specs.Rights.{isOneOf, oneHolds, allHold};
+ghost use Rattle.rights.specs.Rights.{isOneOf, oneHolds, allHold};
 
 // Whether one nexus holds.
 pub fn one_holds(kind: u8) -> bool

@@ -1,53 +1,5 @@
-// Who may do what: registrations, the reservation, the conflict rule, and the six actions that change them.
-pub mod actions;
+// Who may do what: the registration places, the rights as a whole, the conflict rule.
 pub mod conflict;
-mod kinds;
-mod places;
+pub mod kinds;
+pub mod places;
 pub mod standing;
-pub mod told;
-
-use answers::Answer;
-
-// A registration place; it is used exactly if its key is not 0.
-pub struct Place {
-    pub nexus: u8,
-    pub key: u64,
-}
-
-// The registrations, the reservation (type 0 where there is none) and the generation.
-pub struct Rights {
-    pub places: [Place; 8],
-    pub kind: u8,
-    pub holder: u8,
-    pub generation: u32,
-}
-
-// What a command wants of the blocks.
-pub enum Access {
-    Reads,
-    Writes,
-}
-
-// The service actions of PERSISTENT RESERVE OUT.
-pub enum Action {
-    Register,
-    Reserve,
-    Release,
-    Clear,
-    Preempt,
-    RegisterIgnoring,
-}
-
-// What a reservation-out call says beside its action: the type, the key, the service action key, and whether a flag is set that registering refuses.
-pub struct Order {
-    pub kind: u8,
-    pub key: u64,
-    pub service: u64,
-    pub flags: bool,
-}
-
-// The answer to an order, and the rights after it.
-pub struct Decision {
-    pub answer: Answer,
-    pub rights: Rights,
-}

@@ -3,10 +3,13 @@ ghost use mathlib.Core.Path.{_≡_};
 ghost use mathlib.Core.List.{map};
 ghost use Prim.Native.Nat.{_+_, _≤_, _<_};
 ghost use lib.ListN.{getD, drop};
-ghost use Rattle.reservations.specs.Places.{unused, keyOf, enrol};
-ghost use Rattle.reservations.specs.Rights.{placesApart};
+ghost use Rattle.rights.specs.Bounds.{registrationPlaces};
+ghost use Rattle.rights.specs.Places.{unused, keyOf, enrol};
+ghost use Rattle.rights.specs.Rights.{placesApart};
 ghost use Rattle.reservations.specs.Search.{wants, seek, has, after, soundBefore};
-use crate::Place;
+use rights::LAST_NEXUS;
+use rights::Place;
+use rights::REGISTRATION_PLACES;
 
 // What a place is looked for by: its nexus, its key, that it is used, that it is free.
 pub enum Want {
@@ -36,57 +39,57 @@ fn wanted(place: Place, want: Want) -> bool
 }
 
 // The first place wanted, from a place on; 8 where there is none.
-fn seek_from(places: [Place; 8], want: Want, from: usize) -> usize
-    requires { ⌜ from ≤ 8 ⌝ }
+fn seek_from(places: [Place; REGISTRATION_PLACES], want: Want, from: usize) -> usize
+    requires { ⌜ from ≤ registrationPlaces ⌝ }
     ensures { λ r. ⌜ r ≡ from + seek want (drop from places) ⌝ }
 {
     let mut i = from;
-    while i < 8 {
+    while i < REGISTRATION_PLACES {
         if wanted(places[i], want) {
             return i;
         }
         i = i + 1;
     }
-    8
+    REGISTRATION_PLACES
 }
 
 // The first place wanted; 8 where there is none.
-fn seek(places: [Place; 8], want: Want) -> usize
+fn seek(places: [Place; REGISTRATION_PLACES], want: Want) -> usize
     ensures { λ r. ⌜ r ≡ seek want places ⌝ }
 {
     seek_from(places, want, 0)
 }
 
 // Whether there is a place wanted, from a place on.
-fn has_from(places: [Place; 8], want: Want, from: usize) -> bool
-    requires { ⌜ from ≤ 8 ⌝ }
+fn has_from(places: [Place; REGISTRATION_PLACES], want: Want, from: usize) -> bool
+    requires { ⌜ from ≤ registrationPlaces ⌝ }
     ensures { λ r. ⌜ r ≡ has want (drop from places) ⌝ }
 {
-    seek_from(places, want, from) < 8
+    seek_from(places, want, from) < REGISTRATION_PLACES
 }
 
 // Whether there is a place wanted.
-pub fn has(places: [Place; 8], want: Want) -> bool
+pub fn has(places: [Place; REGISTRATION_PLACES], want: Want) -> bool
     ensures { λ r. ⌜ r ≡ has want places ⌝ }
 {
     has_from(places, want, 0)
 }
 
 // The key of a nexus; 0 where it is not registered.
-pub fn key_of(places: [Place; 8], nexus: u8) -> u64
+pub fn key_of(places: [Place; REGISTRATION_PLACES], nexus: u8) -> u64
     ensures { λ r. ⌜ r ≡ keyOf nexus places ⌝ }
 {
     let i = seek(places, Want::Of(nexus));
-    if i < 8 { places[i].key } else { 0 }
+    if i < REGISTRATION_PLACES { places[i].key } else { 0 }
 }
 
 // The lowest free place given to a nexus.
-pub fn enrol(places: [Place; 8], nexus: u8, key: u64) -> [Place; 8]
+pub fn enrol(places: [Place; REGISTRATION_PLACES], nexus: u8, key: u64) -> [Place; REGISTRATION_PLACES]
     ensures { λ r. ⌜ r ≡ enrol nexus key places ⌝ }
 {
     let i = seek(places, Want::Free);
     let mut after = places;
-    if i < 8 {
+    if i < REGISTRATION_PLACES {
         after[i] = Place { nexus, key };
     }
     after
@@ -123,12 +126,12 @@ fn changed(place: Place, change: Change) -> Place
 }
 
 // Every place changed.
-pub fn change_all(places: [Place; 8], by: Change) -> [Place; 8]
+pub fn change_all(places: [Place; REGISTRATION_PLACES], by: Change) -> [Place; REGISTRATION_PLACES]
     ensures { λ r. ⌜ r ≡ map (after by) places ⌝ }
 {
     let mut all = places;
     let mut i: usize = 0;
-    while i < 8 {
+    while i < REGISTRATION_PLACES {
         all[i] = changed(all[i], by);
         i = i + 1;
     }
@@ -136,26 +139,26 @@ pub fn change_all(places: [Place; 8], by: Change) -> [Place; 8]
 }
 
 // Whether a place holds what it may, and no later one its nexus.
-fn sound(places: [Place; 8], i: usize) -> bool
-    requires { ⌜ i < 8 ⌝ }
+fn sound(places: [Place; REGISTRATION_PLACES], i: usize) -> bool
+    requires { ⌜ i < registrationPlaces ⌝ }
     ensures { λ r. ⌜ r ≡ soundBefore (getD places i unused) (drop (i + 1) places) ⌝ }
 {
     let place = places[i];
     if place.key == 0 {
         return place.nexus == 0;
     }
-    if 15 < place.nexus {
+    if LAST_NEXUS < place.nexus {
         return false;
     }
     !has_from(places, Want::Of(place.nexus), i + 1)
 }
 
 // Whether the used places have different nexuses up to 15, and the unused ones hold zeros.
-pub fn apart(places: [Place; 8]) -> bool
+pub fn apart(places: [Place; REGISTRATION_PLACES]) -> bool
     ensures { λ r. ⌜ r ≡ placesApart places ⌝ }
 {
     let mut i: usize = 0;
-    while i < 8 {
+    while i < REGISTRATION_PLACES {
         if !sound(places, i) {
             return false;
         }

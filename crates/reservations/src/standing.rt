@@ -1,17 +1,18 @@
 // The rights as a whole: which are valid, who holds, when a reservation ends, the generation.
 ghost use mathlib.Core.Path.{_≡_};
-ghost use Rattle.reservations.specs.Rights.{holds, stands, rightsOk, held, ended, withPlaces, settled, raised, noRights};
-use crate::Place;
-use crate::Rights;
+ghost use Rattle.rights.specs.Rights.{holds, holderKey, stands, rightsOk, held, gone, ended, withPlaces, settled, raised, noRights};
 use crate::kinds;
 use crate::places;
 use crate::places::Want;
+use rights::REGISTRATION_PLACES;
+use rights::Rights;
+use rights::Place;
 
 // No registration, no reservation, generation 0.
 pub fn none() -> Rights
     ensures { λ r. ⌜ r ≡ noRights ⌝ }
 {
-    let places = [Place { nexus: 0, key: 0 }; 8];
+    let places = [Place { nexus: 0, key: 0 }; REGISTRATION_PLACES];
     Rights {
         places,
         kind: 0,
@@ -34,8 +35,19 @@ pub fn holds(rights: Rights, nexus: u8) -> bool
     false
 }
 
+// The key of the one nexus that holds; 0 where all hold or none does.
+pub fn holder_key(rights: Rights) -> u64
+    ensures { λ r. ⌜ r ≡ holderKey rights ⌝ }
+{
+    if kinds::one_holds(rights.kind) {
+        let places = rights.places;
+        return places::key_of(places, rights.holder);
+    }
+    0
+}
+
 // Whether a reservation has who holds it, or there is none.
-fn stands(places: [Place; 8], kind: u8, holder: u8) -> bool
+fn stands(places: [Place; REGISTRATION_PLACES], kind: u8, holder: u8) -> bool
     ensures { λ r. ⌜ r ≡ stands places kind holder ⌝ }
 {
     if kinds::one_holds(kind) {
@@ -66,7 +78,7 @@ pub fn valid(rights: Rights) -> bool
 }
 
 // The rights with other places.
-pub fn with_places(rights: Rights, places: [Place; 8]) -> Rights
+pub fn with_places(rights: Rights, places: [Place; REGISTRATION_PLACES]) -> Rights
     ensures { λ r. ⌜ r ≡ withPlaces rights places ⌝ }
 {
     Rights {
@@ -104,16 +116,25 @@ pub fn ended(rights: Rights) -> Rights
     }
 }
 
-// The reservation ends where its holder, or the last registrant, is gone.
+// Whether the holder, or the last registrant, is gone.
+fn gone(rights: Rights) -> bool
+    ensures { λ r. ⌜ r ≡ gone rights ⌝ }
+{
+    let places = rights.places;
+    if kinds::one_holds(rights.kind) {
+        return !places::has(places, Want::Of(rights.holder));
+    }
+    if kinds::all_hold(rights.kind) {
+        return !places::has(places, Want::Used);
+    }
+    false
+}
+
+// A reservation ends where its holder, or the last registrant, is gone.
 pub fn settled(rights: Rights) -> Rights
     ensures { λ r. ⌜ r ≡ settled rights ⌝ }
 {
-    let places = rights.places;
-    if stands(places, rights.kind, rights.holder) {
-        rights
-    } else {
-        ended(rights)
-    }
+    if gone(rights) { ended(rights) } else { rights }
 }
 
 // The generation one higher; after FFFF_FFFFh it is 0.

@@ -5,8 +5,8 @@ use mathlib.Core.List.{List, [], _∷_}
 use Prim.Native.Nat.{ℕ, zero, suc, _+_, _^_}
 use lib.Dec.{eqb, ltb}
 use lib.ListN.{length, getD}
-use Rattle.reservations.specs.declared.Place.{Place}
-use Rattle.reservations.specs.Places.{unused}
+use Rattle.rights.specs.declared.Place.{Place}
+use Rattle.rights.specs.Places.{unused}
 use Rattle.commands.specs.declared.Unit.{Unit}
 
 -- the word i of the state

@@ -1,6 +1,6 @@
 -- `commands::alter::order_of` meets its contract. Assumes nothing.
 use borrow.Author.Needs.{needs}
-use Rattle.commands.specs.Alter.{orderOf}
+use Rattle.commands.specs.Alter.{parametersOf}
 use Rattle.commands.proofs.alter.order_of.Statement.{statement}
 use Rattle.commands.proofs.alter.order_of.Tie as tie
 
@@ -20,7 +20,7 @@ flagged-requires : tie.Need-flagged-requires
 flagged-requires c κs = tt
 
 returns : tie.Need-returns
-unfolding orderOf
+unfolding parametersOf
 returns c = simp ((c .before .before .before .before .byte .ensures), (c .before .before .before .number .ensures .0), (c .before .before .number2 .ensures .0), (c .before .byte2 .ensures), (c .flagged .ensures))
 
 pub order-of-spec : {M : Type 1} → statement M

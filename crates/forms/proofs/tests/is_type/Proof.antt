@@ -2,7 +2,7 @@
 use borrow.Author.Tests.{ne-eqb}
 use Rattle.forms.proofs.tests.is_type.Statement.{statement}
 use Rattle.forms.proofs.tests.is_type.Tie as tie
-use Rattle.reservations.specs.Rights.{isType, isOneOf}
+use Rattle.rights.specs.Rights.{isType, isOneOf}
 
 returns : tie.Need-returns
 unfolding isType isOneOf

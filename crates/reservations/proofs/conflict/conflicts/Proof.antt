@@ -2,7 +2,7 @@
 -- Assumes nothing.
 use mathlib.Core.Path.{sym, _∙_}
 use borrow.Author.Needs.{needs}
-use Rattle.reservations.specs.Conflict.{conflict}
+use Rattle.rights.specs.Conflict.{conflict}
 use Rattle.reservations.proofs.conflict.conflicts.Statement.{statement}
 use Rattle.reservations.proofs.conflict.conflicts.Tie as tie
 

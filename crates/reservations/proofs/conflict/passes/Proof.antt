@@ -2,7 +2,7 @@
 -- Assumes nothing.
 use mathlib.Core.Path.{sym, _∙_}
 use borrow.Author.Needs.{needs}
-use Rattle.reservations.specs.Conflict.{passes}
+use Rattle.rights.specs.Conflict.{passes}
 use Rattle.reservations.proofs.conflict.passes.Statement.{statement}
 use Rattle.reservations.proofs.conflict.passes.Tie as tie
 

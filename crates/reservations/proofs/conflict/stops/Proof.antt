@@ -1,7 +1,7 @@
 -- `reservations::conflict::stops` meets its contract.
 -- Assumes nothing.
 use borrow.Author.Needs.{needs}
-use Rattle.reservations.specs.Conflict.{stops}
+use Rattle.rights.specs.Conflict.{stops}
 use Rattle.reservations.proofs.conflict.stops.Statement.{statement}
 use Rattle.reservations.proofs.conflict.stops.Tie as tie
 

@@ -1,7 +1,7 @@
 -- `reservations::conflict::stops_reading` meets its contract.
 -- Assumes nothing.
 use borrow.Author.Tests.{ne-eqb}
-use Rattle.reservations.specs.Rights.{isOneOf}
+use Rattle.rights.specs.Rights.{isOneOf}
 use Rattle.reservations.proofs.conflict.stops_reading.Statement.{statement}
 use Rattle.reservations.proofs.conflict.stops_reading.Tie as tie
 

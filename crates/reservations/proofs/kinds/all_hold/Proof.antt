@@ -1,7 +1,7 @@
 -- `reservations::kinds::all_hold` meets its contract.
 -- Assumes nothing.
 use borrow.Author.Tests.{ne-eqb}
-use Rattle.reservations.specs.Rights.{isOneOf, allHold}
+use Rattle.rights.specs.Rights.{isOneOf, allHold}
 use Rattle.reservations.proofs.kinds.all_hold.Statement.{statement}
 use Rattle.reservations.proofs.kinds.all_hold.Tie as tie
 

@@ -2,7 +2,7 @@
 -- Assumes nothing.
 use mathlib.Core.Logic.{⊎-elim}
 use borrow.Author.Tests.{ne-eqb}
-use Rattle.reservations.specs.Rights.{isOneOf, oneHolds}
+use Rattle.rights.specs.Rights.{isOneOf, oneHolds}
 use Rattle.reservations.proofs.kinds.one_holds.Statement.{statement}
 use Rattle.reservations.proofs.kinds.one_holds.Tie as tie
 

@@ -1,7 +1,7 @@
 -- `reservations::kinds::registrants_pass` meets its contract.
 -- Assumes nothing.
 use borrow.Author.Tests.{ne-eqb}
-use Rattle.reservations.specs.Rights.{isOneOf}
+use Rattle.rights.specs.Rights.{isOneOf}
 use Rattle.reservations.proofs.kinds.registrants_pass.Statement.{statement}
 use Rattle.reservations.proofs.kinds.registrants_pass.Tie as tie
 

@@ -6,7 +6,7 @@ use native.Mathlib.Omega.{arith}
 use lib.ListN.{drop}
 use borrow.Author.Tests.{not-true, not-false}
 use borrow.Author.Needs.{needs}
-use Rattle.reservations.specs.Rights.{placesApart}
+use Rattle.rights.specs.Rights.{placesApart}
 use Rattle.reservations.proofs.ChangeLaws.{apart-not, apart-on, apart-end}
 use Rattle.reservations.proofs.places.apart.Statement.{statement}
 use Rattle.reservations.proofs.places.apart.Tie as tie

@@ -4,7 +4,7 @@ use mathlib.Core.Bool.{and-false}
 use mathlib.Core.Path.{sym, _∙_}
 use borrow.Author.Tests.{eq-eqb, ne-eqb, not-true, not-false}
 use borrow.Author.Needs.{needs}
-use Rattle.reservations.specs.Places.{rekeyed, without, spares}
+use Rattle.rights.specs.Places.{rekeyed, without, spares}
 use Rattle.reservations.specs.Search.{wants}
 use Rattle.reservations.proofs.places.changed.Statement.{statement}
 use Rattle.reservations.proofs.places.changed.Tie as tie

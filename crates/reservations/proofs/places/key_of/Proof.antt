@@ -4,8 +4,8 @@ use mathlib.Core.Path.{_≡_, sym, ap, _∙_}
 use native.Mathlib.Omega.{arith}
 use lib.ListN.{length, List·getD-eq-default}
 use borrow.Author.Needs.{needs}
-use Rattle.reservations.specs.declared.Place.{Place}
-use Rattle.reservations.specs.Places.{unused}
+use Rattle.rights.specs.declared.Place.{Place}
+use Rattle.rights.specs.Places.{unused}
 use Rattle.reservations.proofs.SearchLaws.{key-found}
 use Rattle.reservations.proofs.places.key_of.Statement.{statement}
 use Rattle.reservations.proofs.places.key_of.Tie as tie

@@ -3,8 +3,8 @@
 use mathlib.Core.Bool.{and-true}
 use borrow.Author.Tests.{eq-eqb, ne-eqb, le-leb, lt-leb}
 use borrow.Author.Needs.{needs}
-use Rattle.reservations.specs.Places.{used}
-use Rattle.reservations.specs.Rights.{placeOk}
+use Rattle.rights.specs.Places.{used}
+use Rattle.rights.specs.Rights.{placeOk}
 use Rattle.reservations.specs.Search.{soundBefore}
 use Rattle.reservations.proofs.places.sound.Statement.{statement}
 use Rattle.reservations.proofs.places.sound.Tie as tie

@@ -3,7 +3,7 @@
 use mathlib.Core.Bool.{Bool·not-not}
 use borrow.Author.Tests.{eq-eqb, ne-eqb}
 use borrow.Author.Needs.{needs}
-use Rattle.reservations.specs.Places.{used, isOf}
+use Rattle.rights.specs.Places.{used, isOf}
 use Rattle.reservations.specs.Search.{wants}
 use Rattle.reservations.proofs.places.wanted.Statement.{statement}
 use Rattle.reservations.proofs.places.wanted.Tie as tie

@@ -1,7 +1,7 @@
 -- `reservations::standing::ended` meets its contract.
 -- Assumes nothing.
 use borrow.Author.Needs.{needs}
-use Rattle.reservations.specs.Rights.{ended}
+use Rattle.rights.specs.Rights.{ended}
 use Rattle.reservations.proofs.standing.ended.Statement.{statement}
 use Rattle.reservations.proofs.standing.ended.Tie as tie
 

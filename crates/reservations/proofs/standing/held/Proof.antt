@@ -2,7 +2,7 @@
 -- Assumes nothing.
 use mathlib.Core.Path.{sym, _∙_}
 use borrow.Author.Needs.{needs}
-use Rattle.reservations.specs.Rights.{held}
+use Rattle.rights.specs.Rights.{held}
 use Rattle.reservations.proofs.standing.held.Statement.{statement}
 use Rattle.reservations.proofs.standing.held.Tie as tie
 

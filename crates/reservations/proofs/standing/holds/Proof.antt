@@ -3,8 +3,8 @@
 use mathlib.Core.Path.{_≡_, sym, _∙_}
 use mathlib.Core.Bool.{true, or-false}
 use borrow.Author.Needs.{needs}
-use Rattle.reservations.specs.Rights.{oneHolds, holds}
-use Rattle.reservations.proofs.RightsLaws.{one-not-all}
+use Rattle.rights.specs.Rights.{oneHolds, holds}
+use Rattle.rights.proofs.RightsLaws.{one-not-all}
 use Rattle.reservations.proofs.standing.holds.Statement.{statement}
 use Rattle.reservations.proofs.standing.holds.Tie as tie
 

@@ -1,7 +1,7 @@
 -- `reservations::standing::none` meets its contract.
 -- Assumes nothing.
 use borrow.Author.Needs.{needs}
-use Rattle.reservations.specs.Rights.{noRights}
+use Rattle.rights.specs.Rights.{noRights}
 use Rattle.reservations.proofs.standing.none.Statement.{statement}
 use Rattle.reservations.proofs.standing.none.Tie as tie
 

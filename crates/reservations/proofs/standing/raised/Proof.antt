@@ -1,7 +1,7 @@
 -- `reservations::standing::raised` meets its contract.
 -- Assumes nothing.
 use borrow.Author.Needs.{needs}
-use Rattle.reservations.specs.Rights.{raised}
+use Rattle.rights.specs.Rights.{raised}
 use Rattle.reservations.proofs.standing.raised.Statement.{statement}
 use Rattle.reservations.proofs.standing.raised.Tie as tie
 

@@ -5,8 +5,8 @@ use mathlib.Core.Bool.{true, or-false, and-false, and-true}
 use lib.Dec.{eqb}
 use borrow.Author.Tests.{not-true, not-false}
 use borrow.Author.Needs.{needs}
-use Rattle.reservations.specs.Rights.{oneHolds, allHold, stands}
-use Rattle.reservations.proofs.RightsLaws.{one-not-none, all-not-none, one-not-all}
+use Rattle.rights.specs.Rights.{oneHolds, allHold, stands}
+use Rattle.rights.proofs.RightsLaws.{one-not-none, all-not-none, one-not-all}
 use Rattle.reservations.proofs.standing.stands.Statement.{statement}
 use Rattle.reservations.proofs.standing.stands.Tie as tie
 

@@ -5,9 +5,9 @@ use mathlib.Core.Bool.{and-false}
 use lib.ListN.{length}
 use borrow.Author.Tests.{eq-eqb, not-true, not-false}
 use borrow.Author.Needs.{needs}
-use Rattle.reservations.specs.Rights.{rightsOk, placesOk}
+use Rattle.rights.specs.Rights.{rightsOk, placesOk}
 use Rattle.reservations.proofs.ChangeLaws.{length-mapped}
-use Rattle.reservations.proofs.RightsLaws.{stands-none}
+use Rattle.rights.proofs.RightsLaws.{stands-none}
 use Rattle.reservations.proofs.standing.valid.Statement.{statement}
 use Rattle.reservations.proofs.standing.valid.Tie as tie
 

@@ -1,7 +1,7 @@
 -- `reservations::standing::with_places` meets its contract.
 -- Assumes nothing.
 use borrow.Author.Needs.{needs}
-use Rattle.reservations.specs.Rights.{withPlaces}
+use Rattle.rights.specs.Rights.{withPlaces}
 use Rattle.reservations.proofs.standing.with_places.Statement.{statement}
 use Rattle.reservations.proofs.standing.with_places.Tie as tie
 

@@ -1,0 +1,232 @@
+// The six actions of PERSISTENT RESERVE OUT: each tests what its rows test, in their order, and then changes the rights.
+ghost use mathlib.Core.Path.{_≡_};
+ghost use mathlib.Core.List.{[], _∷_};
+ghost use Rattle.answers.specs.Order.{_if_};
+ghost use Rattle.answers.specs.Answers.{noPlace};
+ghost use Rattle.rights.specs.declared.Action.the-variants.{Register, Reserve, Release, Clear, Preempt, RegisterIgnoring};
+ghost use Rattle.rights.specs.Actions.{stranger, crowded, registering, preempting, decided};
+ghost use Rattle.actions.specs.Decided.{decidedBy};
+use rights::Action;
+use rights::Decision;
+use rights::Parameters;
+use rights::Rights;
+use reservations::places;
+use reservations::places::Change;
+use reservations::places::Want;
+use reservations::standing;
+use answers::Answer;
+
+// What a reservation-out call decides.
+pub fn decide(action: Action, rights: Rights, nexus: u8, parameters: Parameters) -> Decision
+    ensures { λ r. ⌜ r ≡ decided action rights nexus parameters ⌝ }
+{
+    match action {
+        Action::Register => register(rights, nexus, parameters),
+        Action::Reserve => reserve(rights, nexus, parameters),
+        Action::Release => release(rights, nexus, parameters),
+        Action::Clear => clear(rights, nexus, parameters),
+        Action::Preempt => preempt(rights, nexus, parameters),
+        Action::RegisterIgnoring => register_ignoring(rights, nexus, parameters),
+    }
+}
+
+// Whether the sender is unregistered, or its key wrong.
+fn stranger(rights: Rights, nexus: u8, parameters: Parameters) -> bool
+    ensures { λ r. ⌜ r ≡ stranger rights nexus parameters ⌝ }
+{
+    let places = rights.places;
+    if !places::has(places, Want::Of(nexus)) {
+        return true;
+    }
+    !(parameters.key == places::key_of(places, nexus))
+}
+
+// Whether a nexus that has no place wants one, and all are used.
+fn crowded(rights: Rights, nexus: u8, parameters: Parameters) -> bool
+    ensures { λ r. ⌜ r ≡ crowded rights nexus parameters ⌝ }
+{
+    let places = rights.places;
+    if places::has(places, Want::Of(nexus)) {
+        return false;
+    }
+    if parameters.service == 0 {
+        return false;
+    }
+    !places::has(places, Want::Free)
+}
+
+// The rights after a nexus gave a key, or 0.
+fn registering(rights: Rights, nexus: u8, key: u64) -> Rights
+    ensures { λ r. ⌜ r ≡ registering rights nexus key ⌝ }
+{
+    let old = rights.places;
+    if places::has(old, Want::Of(nexus)) {
+        let places = places::change_all(old, Change::Rekey(nexus, key));
+        return standing::raised(standing::settled(standing::with_places(rights, places)));
+    }
+    if key == 0 {
+        return rights;
+    }
+    let places = places::enrol(old, nexus, key);
+    standing::raised(standing::with_places(rights, places))
+}
+
+// What both kinds of registering share, once flags and key are tested.
+fn enter(rights: Rights, nexus: u8, parameters: Parameters) -> Decision
+    ensures { λ r. ⌜ r ≡ decidedBy (noPlace if crowded rights nexus parameters ∷ []) (registering rights nexus (parameters .service)) rights ⌝ }
+{
+    if crowded(rights, nexus, parameters) {
+        let answer = answers::no_place();
+        return Decision { answer, rights };
+    }
+    let after = registering(rights, nexus, parameters.service);
+    Decision {
+        answer: Answer::Good,
+        rights: after,
+    }
+}
+
+fn register(rights: Rights, nexus: u8, parameters: Parameters) -> Decision
+    ensures { λ r. ⌜ r ≡ decided Register rights nexus parameters ⌝ }
+{
+    if parameters.flags {
+        let answer = answers::list_field();
+        return Decision { answer, rights };
+    }
+    let places = rights.places;
+    if !(parameters.key == places::key_of(places, nexus)) {
+        return Decision {
+            answer: Answer::Conflict,
+            rights,
+        };
+    }
+    enter(rights, nexus, parameters)
+}
+
+fn register_ignoring(rights: Rights, nexus: u8, parameters: Parameters) -> Decision
+    ensures { λ r. ⌜ r ≡ decided RegisterIgnoring rights nexus parameters ⌝ }
+{
+    if parameters.flags {
+        let answer = answers::list_field();
+        return Decision { answer, rights };
+    }
+    enter(rights, nexus, parameters)
+}
+
+fn reserve(rights: Rights, nexus: u8, parameters: Parameters) -> Decision
+    ensures { λ r. ⌜ r ≡ decided Reserve rights nexus parameters ⌝ }
+{
+    if stranger(rights, nexus, parameters) {
+        return Decision {
+            answer: Answer::Conflict,
+            rights,
+        };
+    }
+    if rights.kind == 0 {
+        let after = standing::held(rights, parameters.kind, nexus);
+        return Decision {
+            answer: Answer::Good,
+            rights: after,
+        };
+    }
+    if !standing::holds(rights, nexus) {
+        return Decision {
+            answer: Answer::Conflict,
+            rights,
+        };
+    }
+    if rights.kind == parameters.kind {
+        return Decision {
+            answer: Answer::Good,
+            rights,
+        };
+    }
+    Decision {
+        answer: Answer::Conflict,
+        rights,
+    }
+}
+
+fn release(rights: Rights, nexus: u8, parameters: Parameters) -> Decision
+    ensures { λ r. ⌜ r ≡ decided Release rights nexus parameters ⌝ }
+{
+    if stranger(rights, nexus, parameters) {
+        return Decision {
+            answer: Answer::Conflict,
+            rights,
+        };
+    }
+    if !standing::holds(rights, nexus) {
+        return Decision {
+            answer: Answer::Good,
+            rights,
+        };
+    }
+    if parameters.kind == rights.kind {
+        let after = standing::ended(rights);
+        return Decision {
+            answer: Answer::Good,
+            rights: after,
+        };
+    }
+    let answer = answers::other_type();
+    Decision { answer, rights }
+}
+
+fn clear(rights: Rights, nexus: u8, parameters: Parameters) -> Decision
+    ensures { λ r. ⌜ r ≡ decided Clear rights nexus parameters ⌝ }
+{
+    if stranger(rights, nexus, parameters) {
+        return Decision {
+            answer: Answer::Conflict,
+            rights,
+        };
+    }
+    let old = rights.places;
+    let places = places::change_all(old, Change::Empty);
+    let after = standing::raised(standing::ended(standing::with_places(rights, places)));
+    Decision {
+        answer: Answer::Good,
+        rights: after,
+    }
+}
+
+// The rights after all with a key are removed.
+fn preempting(rights: Rights, nexus: u8, kind: u8, key: u64) -> Rights
+    ensures { λ r. ⌜ r ≡ preempting rights nexus kind key ⌝ }
+{
+    let old = rights.places;
+    if standing::holder_key(rights) == key {
+        let places = places::change_all(old, Change::RemoveBut(key, nexus));
+        return standing::raised(standing::held(standing::with_places(rights, places), kind, nexus));
+    }
+    let places = places::change_all(old, Change::Remove(key));
+    standing::raised(standing::settled(standing::with_places(rights, places)))
+}
+
+fn preempt(rights: Rights, nexus: u8, parameters: Parameters) -> Decision
+    ensures { λ r. ⌜ r ≡ decided Preempt rights nexus parameters ⌝ }
+{
+    if stranger(rights, nexus, parameters) {
+        return Decision {
+            answer: Answer::Conflict,
+            rights,
+        };
+    }
+    if parameters.service == 0 {
+        let answer = answers::list_field();
+        return Decision { answer, rights };
+    }
+    let places = rights.places;
+    if !places::has(places, Want::Keyed(parameters.service)) {
+        return Decision {
+            answer: Answer::Conflict,
+            rights,
+        };
+    }
+    let after = preempting(rights, nexus, parameters.kind, parameters.service);
+    Decision {
+        answer: Answer::Good,
+        rights: after,
+    }
+}

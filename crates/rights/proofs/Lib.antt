@@ -1,0 +1,3 @@
+pub mod RightsLaws
+pub mod Keeping
+pub mod Generation

@@ -1,0 +1,6 @@
+pub mod Bounds
+pub mod Places
+pub mod Rights
+pub mod Conflict
+pub mod Actions
+pub mod Told

@@ -1,0 +1,53 @@
+// Who may do what, as a meaning: registrations, the reservation, the conflict rule, the six actions and what is told of them.
+// No code: the types stand here, what they mean in specs/, the laws in proofs/.
+use answers::Answer;
+
+// The highest nexus number.
+pub const LAST_NEXUS: u8 = 15;
+
+// How many registration places there are.
+pub const REGISTRATION_PLACES: usize = 8;
+
+// A registration place; it is used exactly if its key is not 0.
+pub struct Place {
+    pub nexus: u8,
+    pub key: u64,
+}
+
+// The registrations, the reservation (type 0 where there is none) and the generation.
+pub struct Rights {
+    pub places: [Place; REGISTRATION_PLACES],
+    pub kind: u8,
+    pub holder: u8,
+    pub generation: u32,
+}
+
+// What a command wants of the blocks.
+pub enum Access {
+    Reads,
+    Writes,
+}
+
+// The service actions of PERSISTENT RESERVE OUT.
+pub enum Action {
+    Register,
+    Reserve,
+    Release,
+    Clear,
+    Preempt,
+    RegisterIgnoring,
+}
+
+// What a reservation-out call says beside its action: the type, the key, the service action key, and whether a flag is set that registering refuses.
+pub struct Parameters {
+    pub kind: u8,
+    pub key: u64,
+    pub service: u64,
+    pub flags: bool,
+}
+
+// The answer to an action, and the rights after it.
+pub struct Decision {
+    pub answer: Answer,
+    pub rights: Rights,
+}

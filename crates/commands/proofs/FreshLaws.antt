@@ -12,8 +12,8 @@ use Rattle.answers.proofs.OrderLaws.{row-pass, row-stop, row-end}
 use Rattle.map.specs.Valid.{capacityOk, slotsOk}
 use Rattle.rights.specs.declared.Rights.{Rights}
 use Rattle.rights.specs.Rights.{noRights}
-use Rattle.commands.specs.Fresh.{freshUnit, freshAnswer, fresh}
-use Rattle.commands.specs.Contract.{made}
+use Rattle.store.specs.Fresh.{freshUnit, freshAnswer, fresh}
+use Rattle.reply.specs.Contract.{made}
 
 module _ (capacity : ℕ) (owners : List ℕ) where
   bad-capacity : capacityOk capacity ≡ false → freshAnswer capacity (length owners) ≡ Unusable

@@ -1,7 +1,5 @@
 pub mod StepLaws
-pub mod ServeLaws
 pub mod ReadyLaws
-pub mod TellLaws
-pub mod MoveLaws
+pub mod ServedLaws
 pub mod FreshLaws
 pub mod Only

@@ -3,12 +3,12 @@
 use mathlib.Core.Path.{_≡_, sym, ap, _∙_}
 use mathlib.Core.List.{List}
 use Prim.Native.Nat.{ℕ}
-use Rattle.commands.specs.declared.Outcome.{Outcome}
-use Rattle.commands.specs.declared.Made.{Made}
-use Rattle.commands.specs.Store.{Store, Call, Result}
-use Rattle.commands.specs.Step.{step}
-use Rattle.commands.specs.Fresh.{FreshResult, fresh}
-use Rattle.commands.specs.Contract.{left, made}
+use Rattle.reply.specs.declared.Outcome.{Outcome}
+use Rattle.reply.specs.declared.Made.{Made}
+use Rattle.store.specs.Store.{Store, Call, Result}
+use Rattle.store.specs.Step.{step}
+use Rattle.store.specs.Fresh.{FreshResult, fresh}
+use Rattle.reply.specs.Contract.{left, made}
 
 pub execute-only : (s : Store) (c : Call) (r q : Outcome) (owners owners′ medium medium′ dataIn dataIn′ sense sense′ : List ℕ)
     → left r owners medium dataIn sense ≡ step s c → left q owners′ medium′ dataIn′ sense′ ≡ step s c

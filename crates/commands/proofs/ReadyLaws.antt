@@ -15,10 +15,11 @@ use Rattle.map.specs.Valid.{capacityOk, slotsOk, mapOk, poolOk, checked}
 use Rattle.map.specs.Write.{pool}
 use Rattle.map.proofs.Clashes.{checked-valid, valid-checked}
 use Rattle.rights.specs.Rights.{rightsOk}
-use Rattle.commands.specs.declared.Unit.{Unit}
-use Rattle.commands.specs.Store.{Store, Call, unitOk, usable}
-use Rattle.commands.specs.Contract.{storeOf, callOf}
-use Rattle.commands.specs.Parts.{Bounded, readyFor}
+use Rattle.store.specs.declared.Unit.{Unit}
+use Rattle.store.specs.Store.{Store, Call, unitOk, usable}
+use Rattle.reply.specs.Contract.{storeOf, callOf}
+use Rattle.reply.specs.Reply.{Bounded}
+use Rattle.commands.specs.Served.{readyFor}
 
 module _ (u : Unit) (owners medium : List ℕ) (t : T (usable (storeOf u owners medium))) where
   unit-part : T (unitOk u)

@@ -18,21 +18,22 @@ use Rattle.answers.proofs.OrderLaws.{first-append, next-good, next-refuses}
 use Rattle.rights.specs.declared.Action.the-variants.{Register, Reserve, Release, Clear, Preempt, RegisterIgnoring}
 use Rattle.forms.specs.declared.Tell.the-variants.{Ready, Inquiry, Capacity10, Capacity16, Keys, Reservation}
 use Rattle.forms.specs.declared.Move.the-variants.{Read, Write, Unmap}
-use Rattle.forms.specs.declared.Kind.{Kind}
-use Rattle.forms.specs.declared.Kind.the-variants.{Tells, Moves, Alters, Unknown, Unlisted}
+use Rattle.forms.specs.declared.Command.{Command}
+use Rattle.forms.specs.declared.Command.the-variants.{Tells, Moves, Alters, Unknown, Unlisted}
 use Rattle.forms.specs.declared.Form.{Form}
 use Rattle.forms.specs.Forms.{formOf}
 use Rattle.forms.specs.Tests.{inquiryRows, transferRows, unmapRows, typeRows, fieldRows, formRows}
 use Rattle.forms.proofs.Refusing.{form-refusing}
-use Rattle.commands.specs.declared.Outcome.{Outcome}
-use Rattle.commands.specs.Store.{Store, Call, Result, seenOf}
-use Rattle.commands.specs.Tell.{tellRows}
-use Rattle.commands.specs.Move.{moveRows, rangeRows, moved, fetched}
-use Rattle.commands.specs.Alter.{alterRows}
-use Rattle.commands.specs.Step.{callRows, storeRows, ownRows, answerBy, dataBy, storeBy, stepBy, step}
-use Rattle.commands.specs.Contract.{callOf, left}
-use Rattle.commands.specs.Parts.{readyFor, replyOf, Served, served, serves, servedBy, servedWith, bare}
-use Rattle.commands.proofs.ServeLaws.{plain, serving, serves-refused}
+use Rattle.reply.specs.declared.Outcome.{Outcome}
+use Rattle.store.specs.Store.{Store, Call, Result, seenOf}
+use Rattle.store.specs.Tell.{tellRows}
+use Rattle.store.specs.Move.{moveRows, rangeRows, moved, fetched}
+use Rattle.store.specs.Alter.{alterRows}
+use Rattle.store.specs.Step.{callRows, storeRows, ownRows, answerBy, dataBy, storeBy, stepBy, step}
+use Rattle.reply.specs.Contract.{callOf, left}
+use Rattle.commands.specs.Served.{readyFor, servedBy, servedWith, bare}
+use Rattle.reply.specs.Reply.{replyOf, Served, served, serves}
+use Rattle.reply.proofs.ReplyLaws.{plain, serving, serves-refused}
 
 -- ---- the tests before any command
 
@@ -55,7 +56,7 @@ rows-stop false false false true rows e = absurd (true≢false e)
 rows-stop false false false false rows e = refl
 
 module _ (f : Form) (s : Store) (c : Call) where
-  answer-ready : readyFor s c ≡ true → answerBy f s c ≡ first (formRows f (f .kind) (c .cdb) ++ ownRows f (f .kind) s c)
+  answer-ready : readyFor s c ≡ true → answerBy f s c ≡ first (formRows f (f .command) (c .cdb) ++ ownRows f (f .command) s c)
   unfolding answerBy callRows storeRows readyFor
   answer-ready e = rows-pass _ _ _ _ _ e
 
@@ -82,10 +83,10 @@ unfolding step stepBy seenOf servedWith serves replyOf
 step-ready s c e = rw (answer-ready (formOf (c .cdb)) s c e)
 
 -- no command looks at the sense buffer
-servedAs : Form → Kind → Store → Call → Served
+servedAs : Form → Command → Store → Call → Served
 servedAs f k s c = serves (first (formRows f k (c .cdb) ++ ownRows f k s c)) (dataBy f k s c) (storeBy f k s c) s (c .dataIn)
 
-sense-unseen : (f : Form) (k : Kind) (s : Store) (n : ℕ) (cdb out in′ sense : List ℕ)
+sense-unseen : (f : Form) (k : Command) (s : Store) (n : ℕ) (cdb out in′ sense : List ℕ)
     → servedAs f k s (callOf n cdb out in′ []) ≡ servedAs f k s (callOf n cdb out in′ sense)
 unfolding servedAs ownRows dataBy storeBy tellRows moveRows rangeRows moved fetched alterRows
 sense-unseen f (Tells t) s n cdb out in′ sense = refl
@@ -99,7 +100,7 @@ sense-unseen f Unlisted s n cdb out in′ sense = refl
 with-unseen : (f : Form) (s : Store) (n : ℕ) (cdb out in′ sense : List ℕ)
     → servedWith f s (callOf n cdb out in′ []) ≡ servedWith f s (callOf n cdb out in′ sense)
 unfolding servedWith servedAs
-with-unseen f s n cdb out in′ sense = sense-unseen f (f .kind) s n cdb out in′ sense
+with-unseen f s n cdb out in′ sense = sense-unseen f (f .command) s n cdb out in′ sense
 
 module _ (s : Store) (n : ℕ) (cdb out in′ sense : List ℕ) where
   -- a call that is served
@@ -134,30 +135,30 @@ tag-refuses Short k = tt
 
 module _ (f : Form) (s : Store) (c : Call) where
   -- a CDB that fails a test
-  pub form-refused : (a : Answer) → a ≡ first (formRows f (f .kind) (c .cdb)) → T (refuses a)
+  pub form-refused : (a : Answer) → a ≡ first (formRows f (f .command) (c .cdb)) → T (refuses a)
       → serving (plain a (c .dataIn)) s ≡ servedWith f s c
   unfolding servedWith
   form-refused a e t =
       serves-refused a _ _ s (c .dataIn) t
-      ∙ ap (λ (x : Answer). serves x (dataBy f (f .kind) s c) (storeBy f (f .kind) s c) s (c .dataIn))
-      (sym (next-refuses a (first (ownRows f (f .kind) s c)) t)
-      ∙ ap (λ (x : Answer). next x (first (ownRows f (f .kind) s c))) e
-      ∙ sym (first-append (formRows f (f .kind) (c .cdb)) (ownRows f (f .kind) s c) (form-refusing f (f .kind) (c .cdb))))
+      ∙ ap (λ (x : Answer). serves x (dataBy f (f .command) s c) (storeBy f (f .command) s c) s (c .dataIn))
+      (sym (next-refuses a (first (ownRows f (f .command) s c)) t)
+      ∙ ap (λ (x : Answer). next x (first (ownRows f (f .command) s c))) e
+      ∙ sym (first-append (formRows f (f .command) (c .cdb)) (ownRows f (f .command) s c) (form-refusing f (f .command) (c .cdb))))
 
   -- one that passes all
-  pub form-passed : first (formRows f (f .kind) (c .cdb)) ≡ Good → servedBy f (f .kind) s c ≡ servedWith f s c
+  pub form-passed : first (formRows f (f .command) (c .cdb)) ≡ Good → servedBy f (f .command) s c ≡ servedWith f s c
   unfolding servedWith servedBy
   form-passed e =
-      ap (λ (x : Answer). serves x (dataBy f (f .kind) s c) (storeBy f (f .kind) s c) s (c .dataIn))
+      ap (λ (x : Answer). serves x (dataBy f (f .command) s c) (storeBy f (f .command) s c) s (c .dataIn))
       (sym
-      (first-append (formRows f (f .kind) (c .cdb)) (ownRows f (f .kind) s c) (form-refusing f (f .kind) (c .cdb))
-      ∙ ap (λ (x : Answer). next x (first (ownRows f (f .kind) s c))) e
-      ∙ next-good (first (ownRows f (f .kind) s c))))
+      (first-append (formRows f (f .command) (c .cdb)) (ownRows f (f .command) s c) (form-refusing f (f .command) (c .cdb))
+      ∙ ap (λ (x : Answer). next x (first (ownRows f (f .command) s c))) e
+      ∙ next-good (first (ownRows f (f .command) s c))))
 
 -- ---- the kind that a match has found
 
-pub rows-at : (f : Form) (k found : Kind) (cdb : List ℕ) → k ≡ found → first (formRows f k cdb) ≡ Good → first (formRows f found cdb) ≡ Good
-rows-at f k found cdb e h = ap (λ (x : Kind). first (formRows f x cdb)) (sym e) ∙ h
+pub rows-at : (f : Form) (k found : Command) (cdb : List ℕ) → k ≡ found → first (formRows f k cdb) ≡ Good → first (formRows f found cdb) ≡ Good
+rows-at f k found cdb e h = ap (λ (x : Command). first (formRows f x cdb)) (sym e) ∙ h
 
-pub served-at : (f : Form) (k found : Kind) (s : Store) (c : Call) (v : Served) → k ≡ found → v ≡ servedBy f found s c → v ≡ servedBy f k s c
-served-at f k found s c v e h = h ∙ ap (λ (x : Kind). servedBy f x s c) (sym e)
+pub served-at : (f : Form) (k found : Command) (s : Store) (c : Call) (v : Served) → k ≡ found → v ≡ servedBy f found s c → v ≡ servedBy f k s c
+served-at f k found s c v e h = h ∙ ap (λ (x : Command). servedBy f x s c) (sym e)

@@ -1,8 +1,1 @@
-pub mod Store
-pub mod Tell
-pub mod Move
-pub mod Alter
-pub mod Step
-pub mod Fresh
-pub mod Contract
-pub mod Parts
+pub mod Served

@@ -9,9 +9,9 @@ mod transfer;
 mod unmap;
 
 ghost use mathlib.Core.Path.{_≡_};
-ghost use Rattle.commands.specs.Step.{step};
-ghost use Rattle.commands.specs.Fresh.{fresh};
-ghost use Rattle.commands.specs.Contract.{storeOf, callOf, left, made};
+ghost use Rattle.store.specs.Step.{step};
+ghost use Rattle.store.specs.Fresh.{fresh};
+ghost use Rattle.reply.specs.Contract.{storeOf, callOf, left, made};
 use answers::Answer;
 use reservations::Rights;
 

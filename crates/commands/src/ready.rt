@@ -3,9 +3,9 @@ ghost use mathlib.Core.Path.{_≡_};
 ghost use mathlib.Core.List.{[]};
 ghost use Rattle.map.specs.Write.{pool};
 ghost use Rattle.map.specs.Valid.{capacityOk, slotsOk, mapOk, poolOk};
-ghost use Rattle.commands.specs.Store.{unitOk};
-ghost use Rattle.commands.specs.Contract.{storeOf, callOf};
-ghost use Rattle.commands.specs.Parts.{readyFor};
+ghost use Rattle.store.specs.Store.{unitOk};
+ghost use Rattle.reply.specs.Contract.{storeOf, callOf};
+ghost use Rattle.commands.specs.Served.{readyFor};
 use crate::Unit;
 use map::Checked;
 

@@ -3,13 +3,15 @@ ghost use mathlib.Core.Path.{_≡_};
 ghost use mathlib.Core.List.{[]};
 ghost use Rattle.answers.specs.declared.Answer.the-variants.{Good};
 ghost use Rattle.answers.specs.Order.{first};
-ghost use Rattle.forms.specs.declared.Kind.the-variants.{Moves};
+ghost use Rattle.forms.specs.declared.Command.the-variants.{Moves};
 ghost use Rattle.forms.specs.Forms.{formOf};
 ghost use Rattle.forms.specs.Tests.{formRows};
-ghost use Rattle.forms.specs.Sound.{Sound};
-ghost use Rattle.commands.specs.Move.{access};
-ghost use Rattle.commands.specs.Contract.{storeOf, callOf};
-ghost use Rattle.commands.specs.Parts.{Bounded, served, servedBy, servedWith, altered, altersTo, bare, replying};
+ghost use Rattle.decoder.specs.Sound.{Sound};
+ghost use Rattle.store.specs.Move.{access};
+ghost use Rattle.reply.specs.Contract.{storeOf, callOf};
+ghost use Rattle.reply.specs.Reply.{Bounded, served};
+ghost use Rattle.commands.specs.Served.{servedBy, servedWith, altersTo, bare, replying};
+ghost use Rattle.alter.specs.Altered.{altered};
 use crate::Outcome;
 use crate::Unit;
 use crate::alter;
@@ -19,7 +21,7 @@ use crate::transfer;
 use crate::unmap;
 use answers::Answer;
 use forms::Form;
-use forms::Kind;
+use forms::Command;
 use forms::Move;
 use reservations::Access;
 use reservations::Action;
@@ -117,13 +119,13 @@ fn act(
     data_out: &[u8],
     data_in: &mut [u8],
 ) -> Outcome
-    requires { ⌜ Sound form × Bounded (unit .capacity) (now owners) (now medium) × (first (formRows form (form .kind) (now cdb)) ≡ Good) ⌝ }
-    ensures { λ r. ⌜ served r (now (owners .exit)) (now (medium .exit)) (now («data_in» .exit)) ≡ servedBy form (form .kind) (storeOf unit (now (owners .entry)) (now (medium .entry))) (callOf nexus (now (cdb .entry)) (now («data_out» .entry)) (now («data_in» .entry)) []) ⌝ }
+    requires { ⌜ Sound form × Bounded (unit .capacity) (now owners) (now medium) × (first (formRows form (form .command) (now cdb)) ≡ Good) ⌝ }
+    ensures { λ r. ⌜ served r (now (owners .exit)) (now (medium .exit)) (now («data_in» .exit)) ≡ servedBy form (form .command) (storeOf unit (now (owners .entry)) (now (medium .entry))) (callOf nexus (now (cdb .entry)) (now («data_out» .entry)) (now («data_in» .entry)) []) ⌝ }
 {
-    let kind = form.kind;
+    let kind = form.command;
     match kind {
-        Kind::Tells(what) => replied(tell::tell(form, what, unit, cdb, data_in), unit),
-        Kind::Moves(what) => moves(
+        Command::Tells(what) => replied(tell::tell(form, what, unit, cdb, data_in), unit),
+        Command::Moves(what) => moves(
             form,
             what,
             unit,
@@ -134,10 +136,10 @@ fn act(
             data_out,
             data_in,
         ),
-        Kind::Alters(action) => alters(form, action, unit, nexus, cdb, data_out),
+        Command::Alters(action) => alters(form, action, unit, nexus, cdb, data_out),
         // Its form has refused every such call, and no row of its own is left to test.
-        Kind::Unknown => answered(Answer::Good, unit),
-        Kind::Unlisted => answered(Answer::Good, unit),
+        Command::Unknown => answered(Answer::Good, unit),
+        Command::Unlisted => answered(Answer::Good, unit),
     }
 }
 

@@ -2,7 +2,7 @@
 -- Assumes nothing.
 use mathlib.Core.Bool.{not, _&&_}
 use lib.Dec.{T}
-use Rattle.commands.specs.Step.{step}
+use Rattle.store.specs.Step.{step}
 use Rattle.demands.specs.Checker.{passed, allPassed}
 use Rattle.demands.specs.Cases.{cases, caseA, caseE, caseH}
 use Rattle.demands.specs.FurtherCases.{furtherCases}

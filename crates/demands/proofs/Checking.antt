@@ -8,8 +8,8 @@ use Rattle.map.specs.Valid.{checked}
 use Rattle.map.specs.declared.Checked.the-variants.{Valid}
 use Rattle.map.proofs.Keeping.{poolOk-map}
 use Rattle.map.proofs.Clashes.{valid-checked}
-use Rattle.commands.specs.Store.{Store, Call, usable}
-use Rattle.commands.specs.Step.{step}
+use Rattle.store.specs.Store.{Store, Call, usable}
+use Rattle.store.specs.Step.{step}
 use Rattle.demands.proofs.Usable.{usable-pool}
 use Rattle.demands.proofs.Fresh.{unusable-eleven}
 

@@ -15,12 +15,12 @@ use Rattle.rights.specs.Told.{keys, keysData, holderKey, reservationData}
 use Rattle.descriptors.specs.Descriptors.{descriptorAt, considered, fails, someFails, unmapAll}
 use Rattle.forms.specs.Forms.{action, takes, lines, lookup, formFor, formOf, addressOf, sizeOf}
 use Rattle.forms.specs.Tests.{isUnlisted, inquiryRows, transferRows, unmapRows, typeRows, fieldRows, formRows}
-use Rattle.commands.specs.Store.{unitOk, usable, seenOf}
-use Rattle.commands.specs.Tell.{inquiryData, capacity10Data, capacity16Data, available, told, tellRows}
-use Rattle.commands.specs.Move.{access, pastEnd, rangeRows, moveRows, moved, fetched}
-use Rattle.commands.specs.Alter.{parametersOf, alterRows}
-use Rattle.commands.specs.Step.{callRows, storeRows, ownRows, answerBy, dataBy, storeBy, stepBy, step}
-use Rattle.commands.specs.Fresh.{freshUnit, freshAnswer, fresh, freshStore}
+use Rattle.store.specs.Store.{unitOk, usable, seenOf}
+use Rattle.store.specs.Tell.{inquiryData, capacity10Data, capacity16Data, available, told, tellRows}
+use Rattle.store.specs.Move.{access, pastEnd, rangeRows, moveRows, moved, fetched}
+use Rattle.store.specs.Alter.{parametersOf, alterRows}
+use Rattle.store.specs.Step.{callRows, storeRows, ownRows, answerBy, dataBy, storeBy, stepBy, step}
+use Rattle.store.specs.Fresh.{freshUnit, freshAnswer, fresh, freshStore}
 use Rattle.demands.specs.History.{after, isOut, isShutOut, kept, add, watched, heard}
 use Rattle.demands.specs.Checker.{good, good-long, refused, conflicts, no-status, same, sameStatus, senseShows, met, ends, run, passed, allPassed}
 use Rattle.demands.specs.Bench.{block, before, new, at, two, eight, made, call, ready, capacity-10, capacity-16, cdb-10, cdb-16, read-10, read-16, write-10, write-16, unmap-list, descriptor, unmap-1, out, in-call}

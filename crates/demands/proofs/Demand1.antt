@@ -24,16 +24,16 @@ use Rattle.rights.specs.Rights.{isOneOf}
 use Rattle.rights.specs.Actions.{actionRows, decisionRows}
 use Rattle.forms.specs.declared.Tell.the-variants.{Ready, Inquiry, Capacity10, Capacity16, Keys, Reservation}
 use Rattle.forms.specs.declared.Move.the-variants.{Read, Write, Unmap}
-use Rattle.forms.specs.declared.Kind.{Kind}
-use Rattle.forms.specs.declared.Kind.the-variants.{Tells, Moves, Alters, Unknown, Unlisted}
+use Rattle.forms.specs.declared.Command.{Command}
+use Rattle.forms.specs.declared.Command.the-variants.{Tells, Moves, Alters, Unknown, Unlisted}
 use Rattle.forms.specs.declared.Form.{Form}
 use Rattle.forms.specs.Forms.{formOf}
 use Rattle.forms.specs.Tests.{inquiryRows, transferRows, unmapRows, typeRows, fieldRows, formRows}
-use Rattle.commands.specs.Store.{Store, Call, seenOf}
-use Rattle.commands.specs.Tell.{tellRows}
-use Rattle.commands.specs.Move.{rangeRows, moveRows}
-use Rattle.commands.specs.Alter.{alterRows}
-use Rattle.commands.specs.Step.{callRows, storeRows, ownRows, answerBy, dataBy, stepBy, step}
+use Rattle.store.specs.Store.{Store, Call, seenOf}
+use Rattle.store.specs.Tell.{tellRows}
+use Rattle.store.specs.Move.{rangeRows, moveRows}
+use Rattle.store.specs.Alter.{alterRows}
+use Rattle.store.specs.Step.{callRows, storeRows, ownRows, answerBy, dataBy, stepBy, step}
 use Rattle.demands.specs.History.{after}
 use Rattle.demands.specs.Demands.{Demand1}
 use Rattle.demands.proofs.Parts.{answerAs}
@@ -76,7 +76,7 @@ alter-listed : (f : Form) (a : Action) (r : Rights) (c : Call) → T (allListed 
 unfolding alterRows decisionRows allListed listed isOneOf numberOf rowOf senses sameSense
 alter-listed f a r c = action-listed a r (c .nexus) _
 
-own-listed : (f : Form) (k : Kind) (s : Store) (c : Call) → T (allListed (ownRows f k s c))
+own-listed : (f : Form) (k : Command) (s : Store) (c : Call) → T (allListed (ownRows f k s c))
 unfolding ownRows tellRows moveRows rangeRows allListed listed isOneOf numberOf rowOf senses sameSense
 own-listed f (Tells t) s c = tt
 own-listed f (Moves Read) s c = tt
@@ -86,7 +86,7 @@ own-listed f (Alters a) s c = alter-listed f a (s .unit .rights) c
 own-listed f Unknown s c = tt
 own-listed f Unlisted s c = tt
 
-field-listed : (f : Form) (k : Kind) (cdb : List ℕ) → T (allListed (fieldRows f k cdb))
+field-listed : (f : Form) (k : Command) (cdb : List ℕ) → T (allListed (fieldRows f k cdb))
 unfolding fieldRows inquiryRows transferRows unmapRows typeRows allListed listed isOneOf numberOf rowOf senses sameSense
 field-listed f (Tells Ready) cdb = tt
 field-listed f (Tells Inquiry) cdb = tt
@@ -106,7 +106,7 @@ field-listed f (Alters RegisterIgnoring) cdb = tt
 field-listed f Unknown cdb = tt
 field-listed f Unlisted cdb = tt
 
-form-listed : (f : Form) (k : Kind) (cdb : List ℕ) → T (allListed (formRows f k cdb))
+form-listed : (f : Form) (k : Command) (cdb : List ℕ) → T (allListed (formRows f k cdb))
 unfolding formRows allListed listed isOneOf numberOf rowOf senses sameSense
 form-listed f k cdb = field-listed f k cdb
 
@@ -118,14 +118,14 @@ store-listed : (s : Store) → T (allListed (storeRows s))
 unfolding storeRows allListed listed isOneOf numberOf
 store-listed s = tt
 
-answer-listed : (f : Form) (k : Kind) (s : Store) (c : Call) → T (listed (answerAs f k s c))
+answer-listed : (f : Form) (k : Command) (s : Store) (c : Call) → T (listed (answerAs f k s c))
 answer-listed f k s c =
     first-listed _ (append-listed (callRows c) _ (call-listed c)
     (append-listed (storeRows s) _ (store-listed s) (append-listed (formRows f k (c .cdb)) _ (form-listed f k (c .cdb)) (own-listed f k s c))))
 
 pub step-listed : (s : Store) (c : Call) → T (isOneOf (numberOf (step s c .seen .answer)) numbers)
 unfolding step stepBy seenOf answerBy listed
-step-listed s c = answer-listed (formOf (c .cdb)) (formOf (c .cdb) .kind) s c
+step-listed s c = answer-listed (formOf (c .cdb)) (formOf (c .cdb) .command) s c
 
 -- ---- a refusal
 
@@ -202,7 +202,7 @@ sense-length s c = sense-length-by _ (c .sense)
 
 pub data-past : (s : Store) (c : Call) → drop (step s c .seen .returned) (step s c .seen .dataIn) ≡ drop (step s c .seen .returned) (c .dataIn)
 unfolding step stepBy seenOf
-data-past s c = data-past-by _ (c .dataIn) (dataBy (formOf (c .cdb)) (formOf (c .cdb) .kind) s c)
+data-past s c = data-past-by _ (c .dataIn) (dataBy (formOf (c .cdb)) (formOf (c .cdb) .command) s c)
 
 pub data-length : (s : Store) (c : Call) → length (step s c .seen .dataIn) ≡ length (c .dataIn)
 unfolding step stepBy seenOf

@@ -3,11 +3,11 @@
 use mathlib.Core.Path.{_≡_, refl, sym, ap, _∙_, subst, fun-ext}
 use mathlib.Core.List.{List}
 use Prim.Native.Nat.{ℕ}
-use Rattle.commands.specs.Store.{Store, Call, Result}
-use Rattle.commands.specs.Step.{step}
-use Rattle.commands.specs.Fresh.{FreshResult, fresh}
-use Rattle.commands.specs.declared.Outcome.{Outcome}
-use Rattle.commands.specs.Contract.{left}
+use Rattle.store.specs.Store.{Store, Call, Result}
+use Rattle.store.specs.Step.{step}
+use Rattle.store.specs.Fresh.{FreshResult, fresh}
+use Rattle.reply.specs.declared.Outcome.{Outcome}
+use Rattle.reply.specs.Contract.{left}
 use Rattle.commands.proofs.Only.{execute-only}
 use Rattle.demands.specs.History.{Build}
 use Rattle.demands.specs.Generation.{generation}

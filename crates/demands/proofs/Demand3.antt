@@ -21,17 +21,17 @@ use Rattle.rights.specs.Rights.{isOneOf}
 use Rattle.rights.specs.Conflict.{passes, stops, conflict, shutOut}
 use Rattle.rights.specs.Actions.{acted}
 use Rattle.forms.specs.declared.Move.{Move}
-use Rattle.forms.specs.declared.Kind.{Kind}
-use Rattle.forms.specs.declared.Kind.the-variants.{Tells, Moves, Alters, Unknown, Unlisted}
+use Rattle.forms.specs.declared.Command.{Command}
+use Rattle.forms.specs.declared.Command.the-variants.{Tells, Moves, Alters, Unknown, Unlisted}
 use Rattle.forms.specs.declared.Form.{Form}
 use Rattle.forms.specs.Forms.{formOf}
 use Rattle.forms.proofs.Table.{isMoves, isAlters, alters-code, moves-code}
-use Rattle.commands.specs.declared.Unit.{Unit}
-use Rattle.commands.specs.Store.{Store, Call, Seen, usable, seenOf}
-use Rattle.commands.specs.Tell.{told, tellRows}
-use Rattle.commands.specs.Move.{access, moveRows}
-use Rattle.commands.specs.Alter.{parametersOf, alterRows}
-use Rattle.commands.specs.Step.{ownRows, answerBy, dataBy, storeBy, stepBy, step}
+use Rattle.store.specs.declared.Unit.{Unit}
+use Rattle.store.specs.Store.{Store, Call, Seen, usable, seenOf}
+use Rattle.store.specs.Tell.{told, tellRows}
+use Rattle.store.specs.Move.{access, moveRows}
+use Rattle.store.specs.Alter.{parametersOf, alterRows}
+use Rattle.store.specs.Step.{ownRows, answerBy, dataBy, storeBy, stepBy, step}
 use Rattle.demands.specs.History.{after, isOut, isShutOut, kept, add, watched, heard}
 use Rattle.demands.specs.Demands.{Demand3}
 use Rattle.demands.proofs.Parts.{answerAs, own-refused, own-decides, either-store}
@@ -71,7 +71,7 @@ move-refused f m s c h = own-refused f (Moves m) s c (subst (λ (a : Answer). T 
 -- ---- by the kind of a command; `h`: if it moves something, its caller is shut out
 
 module _ (f : Form) (s t : Store) (c : Call) (e : s .unit ≡ t .unit) where
-  own-same : (k : Kind) → (T (isMoves k) → T (isShutOut s c)) → first (ownRows f k s c) ≡ first (ownRows f k t c)
+  own-same : (k : Command) → (T (isMoves k) → T (isShutOut s c)) → first (ownRows f k s c) ≡ first (ownRows f k t c)
   unfolding ownRows isMoves isShutOut
   own-same (Tells x) h = ap (λ (u : Unit). first (tellRows f x u c)) e
   own-same (Moves m) h = move-stops f m s c (h tt) ∙ sym (move-stops f m t c (subst (λ (u : Unit). T (shutOut (u .rights) (c .nexus))) e (h tt)))
@@ -79,7 +79,7 @@ module _ (f : Form) (s t : Store) (c : Call) (e : s .unit ≡ t .unit) where
   own-same Unknown h = refl
   own-same Unlisted h = refl
 
-  seen-same : (k : Kind) (a : Answer) → (T (isMoves k) → T (isShutOut s c)) → a ≡ answerAs f k s c
+  seen-same : (k : Command) (a : Answer) → (T (isMoves k) → T (isShutOut s c)) → a ≡ answerAs f k s c
       → seenOf a (dataBy f k s c) c ≡ seenOf a (dataBy f k t c) c
   unfolding dataBy isMoves
   seen-same (Tells x) a h w = ap (λ (u : Unit). seenOf a (told f x u (c .cdb)) c) e
@@ -88,7 +88,7 @@ module _ (f : Form) (s t : Store) (c : Call) (e : s .unit ≡ t .unit) where
   seen-same Unknown a h w = refl
   seen-same Unlisted a h w = refl
 
-  unit-done : (k : Kind) → storeBy f k s c .unit ≡ storeBy f k t c .unit
+  unit-done : (k : Command) → storeBy f k s c .unit ≡ storeBy f k t c .unit
   unfolding storeBy
   unit-done (Tells x) = e
   unit-done (Moves m) = e
@@ -97,7 +97,7 @@ module _ (f : Form) (s t : Store) (c : Call) (e : s .unit ≡ t .unit) where
   unit-done Unknown = e
   unit-done Unlisted = e
 
-  unit-same : (k : Kind) (a : Answer) → ifGood a (storeBy f k s c) s .unit ≡ ifGood a (storeBy f k t c) t .unit
+  unit-same : (k : Command) (a : Answer) → ifGood a (storeBy f k s c) s .unit ≡ ifGood a (storeBy f k t c) t .unit
   unfolding ifGoodBy refuses
   unit-same k Good = unit-done k
   unit-same k (Refused n) = e
@@ -105,7 +105,7 @@ module _ (f : Form) (s t : Store) (c : Call) (e : s .unit ≡ t .unit) where
   unit-same k Unusable = e
   unit-same k Short = e
 
-unit-left : (f : Form) (k : Kind) (s : Store) (c : Call) → T (not (isAlters k)) → storeBy f k s c .unit ≡ s .unit
+unit-left : (f : Form) (k : Command) (s : Store) (c : Call) → T (not (isAlters k)) → storeBy f k s c .unit ≡ s .unit
 unfolding storeBy isAlters
 unit-left f (Tells x) s c h = refl
 unit-left f (Moves m) s c h = refl
@@ -113,7 +113,7 @@ unit-left f (Alters a) s c h = absurd h
 unit-left f Unknown s c h = refl
 unit-left f Unlisted s c h = refl
 
-pool-left : (f : Form) (k : Kind) (s : Store) (c : Call) → T (not (isMoves k)) → storeBy f k s c .pool ≡ s .pool
+pool-left : (f : Form) (k : Command) (s : Store) (c : Call) → T (not (isMoves k)) → storeBy f k s c .pool ≡ s .pool
 unfolding storeBy isMoves
 pool-left f (Tells x) s c h = refl
 pool-left f (Moves m) s c h = absurd h
@@ -121,7 +121,7 @@ pool-left f (Alters a) s c h = refl
 pool-left f Unknown s c h = refl
 pool-left f Unlisted s c h = refl
 
-store-left : (f : Form) (k : Kind) (s : Store) (c : Call) → T (not (isAlters k)) → T (isShutOut s c)
+store-left : (f : Form) (k : Command) (s : Store) (c : Call) → T (not (isAlters k)) → T (isShutOut s c)
     → ifGood (answerAs f k s c) (storeBy f k s c) s ≡ s
 unfolding storeBy isAlters
 store-left f (Tells x) s c h o = either-store (λ x. x ≡ s) (answerAs f (Tells x) s c) s s refl refl
@@ -132,42 +132,42 @@ store-left f Unlisted s c h o = either-store (λ x. x ≡ s) (answerAs f Unliste
 
 -- ---- one call
 
-out-moves-not : (c : Call) → T (isOut c) → T (not (isMoves (formOf (c .cdb) .kind)))
+out-moves-not : (c : Call) → T (isOut c) → T (not (isMoves (formOf (c .cdb) .command)))
 unfolding isOut
 out-moves-not c o =
-    not-map (not (eqb (byte 0 (c .cdb)) 0x5F)) (isMoves (formOf (c .cdb) .kind)) (moves-code (c .cdb)) (not-not-intro (eqb (byte 0 (c .cdb)) 0x5F) o)
+    not-map (not (eqb (byte 0 (c .cdb)) 0x5F)) (isMoves (formOf (c .cdb) .command)) (moves-code (c .cdb)) (not-not-intro (eqb (byte 0 (c .cdb)) 0x5F) o)
 
-other-alters-not : (c : Call) → T (not (isOut c)) → T (not (isAlters (formOf (c .cdb) .kind)))
+other-alters-not : (c : Call) → T (not (isOut c)) → T (not (isAlters (formOf (c .cdb) .command)))
 unfolding isOut
-other-alters-not c o = not-map (eqb (byte 0 (c .cdb)) 0x5F) (isAlters (formOf (c .cdb) .kind)) (alters-code (c .cdb)) o
+other-alters-not c o = not-map (eqb (byte 0 (c .cdb)) 0x5F) (isAlters (formOf (c .cdb) .command)) (alters-code (c .cdb)) o
 
 not-out : (s : Store) (c : Call) → T (not (kept s c)) → T (not (isOut c))
 unfolding kept
 not-out s c t = nor-l (isOut c) (isShutOut s c) t
 
 -- a kept call that moves something is one by a nexus that is shut out
-kept-shut : (s : Store) (c : Call) → T (kept s c) → T (isMoves (formOf (c .cdb) .kind)) → T (isShutOut s c)
+kept-shut : (s : Store) (c : Call) → T (kept s c) → T (isMoves (formOf (c .cdb) .command)) → T (isShutOut s c)
 unfolding kept isOut
 kept-shut s c t m = or-other (eqb (byte 0 (c .cdb)) 0x5F) (isShutOut s c) (moves-code (c .cdb) m) t
 
 module _ (s t : Store) (c : Call) (u : T (usable s)) (v : T (usable t)) (e : s .unit ≡ t .unit) (h : T (kept s c)) where
   same-answer : answerBy (formOf (c .cdb)) s c ≡ answerBy (formOf (c .cdb)) t c
   unfolding answerBy
-  same-answer = own-decides (formOf (c .cdb)) (formOf (c .cdb) .kind) s t c u v (own-same (formOf (c .cdb)) s t c e (formOf (c .cdb) .kind) (kept-shut s c h))
+  same-answer = own-decides (formOf (c .cdb)) (formOf (c .cdb) .command) s t c u v (own-same (formOf (c .cdb)) s t c e (formOf (c .cdb) .command) (kept-shut s c h))
 
   -- a kept call gives the same on two stores that agree on the unit
   pub kept-seen : step s c .seen ≡ step t c .seen
   unfolding step stepBy answerBy
   kept-seen =
-      seen-same (formOf (c .cdb)) s t c e (formOf (c .cdb) .kind) (answerBy (formOf (c .cdb)) s c) (kept-shut s c h) refl
-      ∙ ap (λ (a : Answer). seenOf a (dataBy (formOf (c .cdb)) (formOf (c .cdb) .kind) t c) c) same-answer
+      seen-same (formOf (c .cdb)) s t c e (formOf (c .cdb) .command) (answerBy (formOf (c .cdb)) s c) (kept-shut s c h) refl
+      ∙ ap (λ (a : Answer). seenOf a (dataBy (formOf (c .cdb)) (formOf (c .cdb) .command) t c) c) same-answer
 
   -- and leaves them so
   pub kept-unit : after step s c .unit ≡ after step t c .unit
   unfolding step stepBy after
   kept-unit =
-      unit-same (formOf (c .cdb)) s t c e (formOf (c .cdb) .kind) (answerBy (formOf (c .cdb)) s c)
-      ∙ ap (λ (a : Answer). ifGood a (storeBy (formOf (c .cdb)) (formOf (c .cdb) .kind) t c) t .unit) same-answer
+      unit-same (formOf (c .cdb)) s t c e (formOf (c .cdb) .command) (answerBy (formOf (c .cdb)) s c)
+      ∙ ap (λ (a : Answer). ifGood a (storeBy (formOf (c .cdb)) (formOf (c .cdb) .command) t c) t .unit) same-answer
 
 -- a reservation-out call acts on the unit alone, by the call alone
 pub out-seen : (s t : Store) (c : Call) → T (usable s) → T (usable t) → s .unit ≡ t .unit → T (isOut c) → step s c .seen ≡ step t c .seen
@@ -183,18 +183,18 @@ out-unit s t c u v e o = kept-unit s t c u v e (or-l (isOut c) (isShutOut s c) o
 pub other-unit : (s : Store) (c : Call) → T (not (isOut c)) → after step s c .unit ≡ s .unit
 unfolding step stepBy after
 other-unit s c o =
-    either-store (λ x. x .unit ≡ s .unit) (answerBy (formOf (c .cdb)) s c) s _ (unit-left (formOf (c .cdb)) (formOf (c .cdb) .kind) s c (other-alters-not c o)) refl
+    either-store (λ x. x .unit ≡ s .unit) (answerBy (formOf (c .cdb)) s c) s _ (unit-left (formOf (c .cdb)) (formOf (c .cdb) .command) s c (other-alters-not c o)) refl
 
 -- "Apart from reservation-out calls, a shut-out call changes no stored thing"
 pub shut-out-still : (s : Store) (c : Call) → T (not (isOut c)) → T (isShutOut s c) → after step s c ≡ s
 unfolding step stepBy after answerBy
-shut-out-still s c o h = store-left (formOf (c .cdb)) (formOf (c .cdb) .kind) s c (other-alters-not c o) h
+shut-out-still s c o h = store-left (formOf (c .cdb)) (formOf (c .cdb) .command) s c (other-alters-not c o) h
 
 -- "a reservation-out call never changes a block or a mapping"
 pub out-pool : (s : Store) (c : Call) → T (isOut c) → after step s c .pool ≡ s .pool
 unfolding step stepBy after
 out-pool s c o =
-    either-store (λ x. x .pool ≡ s .pool) (answerBy (formOf (c .cdb)) s c) s _ (pool-left (formOf (c .cdb)) (formOf (c .cdb) .kind) s c (out-moves-not c o)) refl
+    either-store (λ x. x .pool ≡ s .pool) (answerBy (formOf (c .cdb)) s c) s _ (pool-left (formOf (c .cdb)) (formOf (c .cdb) .command) s c (out-moves-not c o)) refl
 
 -- ---- histories
 

@@ -19,9 +19,9 @@ use Rattle.rights.specs.Places.{used, registered}
 use Rattle.rights.specs.Rights.{noRights, placeOk, placesApart, placesOk, stands, rightsOk}
 use Rattle.forms.specs.Forms.{formOf}
 use Rattle.forms.specs.Tests.{formRows}
-use Rattle.commands.specs.Store.{Store, Call, usable, seenOf}
-use Rattle.commands.specs.Step.{callRows, storeRows, ownRows, answerBy, stepBy, step}
-use Rattle.commands.specs.Fresh.{freshUnit, freshAnswer, fresh, freshStore}
+use Rattle.store.specs.Store.{Store, Call, usable, seenOf}
+use Rattle.store.specs.Step.{callRows, storeRows, ownRows, answerBy, stepBy, step}
+use Rattle.store.specs.Fresh.{freshUnit, freshAnswer, fresh, freshStore}
 use Rattle.demands.proofs.Parts.{parts}
 use Rattle.demands.proofs.Usable.{unit-of, usable-of}
 
@@ -89,6 +89,6 @@ store-eleven s t = row-stop Unusable _ _ (T-true (not (usable s)) t)
 pub unusable-eleven : (s : Store) (c : Call) → T (not (usable s)) → step s c .seen .answer ≡ Unusable
 unfolding step stepBy seenOf answerBy nextBy refuses
 unusable-eleven s c t =
-    parts (formOf (c .cdb)) (formOf (c .cdb) .kind) s c
-    ∙ ap (λ (a : Answer). next (first (callRows c)) (next a (next (first (formRows (formOf (c .cdb)) (formOf (c .cdb) .kind) (c .cdb))) (first (ownRows (formOf (c .cdb)) (formOf (c .cdb) .kind) s c))))) (store-eleven s t)
+    parts (formOf (c .cdb)) (formOf (c .cdb) .command) s c
+    ∙ ap (λ (a : Answer). next (first (callRows c)) (next a (next (first (formRows (formOf (c .cdb)) (formOf (c .cdb) .command) (c .cdb))) (first (ownRows (formOf (c .cdb)) (formOf (c .cdb) .command) s c))))) (store-eleven s t)
     ∙ call-eleven c

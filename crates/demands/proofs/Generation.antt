@@ -14,15 +14,15 @@ use Rattle.rights.specs.declared.Parameters.{Parameters}
 use Rattle.rights.specs.Places.{registered}
 use Rattle.rights.specs.Rights.{isOneOf}
 use Rattle.rights.proofs.Generation.{raises, nextGeneration, acted-generation}
-use Rattle.forms.specs.declared.Kind.{Kind}
-use Rattle.forms.specs.declared.Kind.the-variants.{Tells, Moves, Alters, Unknown, Unlisted}
+use Rattle.forms.specs.declared.Command.{Command}
+use Rattle.forms.specs.declared.Command.the-variants.{Tells, Moves, Alters, Unknown, Unlisted}
 use Rattle.forms.specs.declared.Form.{Form}
 use Rattle.forms.specs.Forms.{form, absent, takes, lines, lookup, action, formFor, formOf}
 use Rattle.forms.proofs.Table.{taken, passed, lookup-passes}
-use Rattle.commands.specs.declared.Unit.{Unit}
-use Rattle.commands.specs.Store.{Store, Call, seenOf}
-use Rattle.commands.specs.Alter.{parametersOf}
-use Rattle.commands.specs.Step.{answerBy, storeBy, stepBy, step}
+use Rattle.store.specs.declared.Unit.{Unit}
+use Rattle.store.specs.Store.{Store, Call, seenOf}
+use Rattle.store.specs.Alter.{parametersOf}
+use Rattle.store.specs.Step.{answerBy, storeBy, stepBy, step}
 use Rattle.demands.specs.History.{after, isOut}
 use Rattle.demands.specs.Generation.{generation, serviceKey, actionRaises, raising}
 use Rattle.demands.proofs.Parts.{either-store}
@@ -30,14 +30,14 @@ use Rattle.demands.proofs.Demand3.{other-unit}
 
 -- ---- what is done raises the generation by its kind
 
-unfoldable raisesAs : Kind → Rights → ℕ → Parameters → Bool
+unfoldable raisesAs : Command → Rights → ℕ → Parameters → Bool
 raisesAs (Tells t) r n o = false
 raisesAs (Moves m) r n o = false
 raisesAs (Alters a) r n o = raises a r n o
 raisesAs Unknown r n o = false
 raisesAs Unlisted r n o = false
 
-done-generation : (f : Form) (k : Kind) (s : Store) (c : Call)
+done-generation : (f : Form) (k : Command) (s : Store) (c : Call)
     → generation (storeBy f k s c)
     ≡ cond (raisesAs k (s .unit .rights) (c .nexus) (parametersOf (c .cdb) (c .dataOut))) (nextGeneration (generation s)) (generation s)
 unfolding storeBy generation raisesAs
@@ -68,7 +68,7 @@ other-form a e0 e1 e2 e3 e4 e6 =
 
 module _ (r : Rights) (n : ℕ) (o : Parameters) where
   abbrev Said : ℕ → Type 0
-  Said a = raisesAs (formFor 0x5F a .kind) r n o ≡ actionRaises a (registered n (r .places)) (eqb (o .service) 0)
+  Said a = raisesAs (formFor 0x5F a .command) r n o ≡ actionRaises a (registered n (r .places)) (eqb (o .service) 0)
 
   said-0 : Said 0
   unfolding formFor lookup lines takes raisesAs raises isOneOf actionRaises
@@ -97,7 +97,7 @@ module _ (r : Rights) (n : ℕ) (o : Parameters) where
   other-said : (a : ℕ) → eqb a 0 ≡ false → eqb a 1 ≡ false → eqb a 2 ≡ false → eqb a 3 ≡ false → eqb a 4 ≡ false → eqb a 6 ≡ false → Said a
   unfolding raisesAs isOneOf actionRaises
   other-said a e0 e1 e2 e3 e4 e6 =
-      ap (λ (f : Form). raisesAs (f .kind) r n o) (other-form a e0 e1 e2 e3 e4 e6) ∙ sym (none (eqb a 0) (eqb a 3) (eqb a 4) (eqb a 6) e0 e3 e4 e6)
+      ap (λ (f : Form). raisesAs (f .command) r n o) (other-form a e0 e1 e2 e3 e4 e6) ∙ sym (none (eqb a 0) (eqb a 3) (eqb a 4) (eqb a 6) e0 e3 e4 e6)
     where
       none : (b0 b3 b4 b6 : Bool) → b0 ≡ false → b3 ≡ false → b4 ≡ false → b6 ≡ false
           → (b0 || (b3 || (b4 || (b6 || false)))) && not ((b0 || (b6 || false)) && not (registered n (r .places)) && eqb (o .service) 0) ≡ false
@@ -120,7 +120,7 @@ unit-generation s t e = ap (λ (u : Unit). u .rights .generation) e
 
 -- the generation where a reservation-out call is done
 out-raises : (s : Store) (c : Call) → T (isOut c)
-    → raisesAs (formOf (c .cdb) .kind) (s .unit .rights) (c .nexus) (parametersOf (c .cdb) (c .dataOut)) ≡ raising s c
+    → raisesAs (formOf (c .cdb) .command) (s .unit .rights) (c .nexus) (parametersOf (c .cdb) (c .dataOut)) ≡ raising s c
 unfolding isOut raising serviceKey parametersOf formOf
 out-raises s c h =
     ap (λ (m : ℕ). raisesAs (formFor m (action (c .cdb)) .kind) (s .unit .rights) (c .nexus) (parametersOf (c .cdb) (c .dataOut))) (eqb→eq (byte 0 (c .cdb)) 0x5F h)
@@ -132,9 +132,9 @@ out-raises s c h =
     in-front false x t = absurd t
 
 out-generation : (s : Store) (c : Call) → T (isOut c)
-    → generation (storeBy (formOf (c .cdb)) (formOf (c .cdb) .kind) s c) ≡ cond (raising s c) (nextGeneration (generation s)) (generation s)
+    → generation (storeBy (formOf (c .cdb)) (formOf (c .cdb) .command) s c) ≡ cond (raising s c) (nextGeneration (generation s)) (generation s)
 out-generation s c h =
-    done-generation (formOf (c .cdb)) (formOf (c .cdb) .kind) s c
+    done-generation (formOf (c .cdb)) (formOf (c .cdb) .command) s c
     ∙ ap (λ (b : Bool). cond b (nextGeneration (generation s)) (generation s)) (out-raises s c h)
 
 raising-out : (s : Store) (c : Call) → T (raising s c) → T (isOut c)

@@ -14,14 +14,14 @@ use Rattle.answers.specs.Order.{first, ifGood, refuses}
 use Rattle.answers.proofs.OrderLaws.{row-fails, rows-after, next-first, next-second, if-good, good-cases}
 use Rattle.forms.specs.declared.Move.{Move}
 use Rattle.forms.specs.declared.Move.the-variants.{Read, Write, Unmap}
-use Rattle.forms.specs.declared.Kind.{Kind}
-use Rattle.forms.specs.declared.Kind.the-variants.{Moves}
+use Rattle.forms.specs.declared.Command.{Command}
+use Rattle.forms.specs.declared.Command.the-variants.{Moves}
 use Rattle.forms.specs.declared.Form.{Form}
 use Rattle.forms.specs.Forms.{formOf, sizeOf}
 use Rattle.forms.specs.Tests.{transferRows, fieldRows, formRows}
-use Rattle.commands.specs.Store.{Store, Call, Result, usable, seenOf}
-use Rattle.commands.specs.Move.{rangeRows, moved, fetched}
-use Rattle.commands.specs.Step.{callRows, storeRows, answerBy, dataBy, storeBy, stepBy, step}
+use Rattle.store.specs.Store.{Store, Call, Result, usable, seenOf}
+use Rattle.store.specs.Move.{rangeRows, moved, fetched}
+use Rattle.store.specs.Step.{callRows, storeRows, answerBy, dataBy, storeBy, stepBy, step}
 use Rattle.demands.specs.History.{after}
 use Rattle.demands.specs.Contents.{Asks, countIn, IsGood, isTransfer}
 use Rattle.demands.proofs.Parts.{answerAs, parts, good-form, good-own}
@@ -30,32 +30,32 @@ use Rattle.demands.proofs.Demand1.{refused-store}
 
 -- ---- a call by its row and kind
 
-abbrev pub resultAs : Form → Kind → Store → Call → Result
+abbrev pub resultAs : Form → Command → Store → Call → Result
 resultAs f k s c =
     record { seen = seenOf (answerAs f k s c) (dataBy f k s c) c; store = ifGood (answerAs f k s c) (storeBy f k s c) s }
 
-pub step-as : (k : Kind) (s : Store) (c : Call) → formOf (c .cdb) .kind ≡ k → step s c ≡ resultAs (formOf (c .cdb)) k s c
+pub step-as : (k : Command) (s : Store) (c : Call) → formOf (c .cdb) .command ≡ k → step s c ≡ resultAs (formOf (c .cdb)) k s c
 unfolding step stepBy answerBy
-step-as k s c e = ap (λ (k : Kind). resultAs (formOf (c .cdb)) k s c) e
+step-as k s c e = ap (λ (k : Command). resultAs (formOf (c .cdb)) k s c) e
 
-pub answer-as : (k : Kind) (s : Store) (c : Call) → formOf (c .cdb) .kind ≡ k → step s c .seen .answer ≡ answerAs (formOf (c .cdb)) k s c
+pub answer-as : (k : Command) (s : Store) (c : Call) → formOf (c .cdb) .command ≡ k → step s c .seen .answer ≡ answerAs (formOf (c .cdb)) k s c
 unfolding seenOf
 answer-as k s c e = ap (λ (r : Result). r .seen .answer) (step-as k s c e)
 
 -- only a usable store answers GOOD
-good-usable-as : (f : Form) (k : Kind) (s : Store) (c : Call) → answerAs f k s c ≡ Good → T (usable s)
+good-usable-as : (f : Form) (k : Command) (s : Store) (c : Call) → answerAs f k s c ≡ Good → T (usable s)
 unfolding storeRows refuses
 good-usable-as f k s c e =
     not-not (usable s) (false→T (not (usable s)) (row-fails Unusable _ _ tt
     (next-first (first (storeRows s)) _ (next-second (first (callRows c)) _ (sym (parts f k s c) ∙ e)))))
 
 pub good-usable : (s : Store) (c : Call) → IsGood s c → T (usable s)
-good-usable s c e = good-usable-as (formOf (c .cdb)) (formOf (c .cdb) .kind) s c (sym (answer-as (formOf (c .cdb) .kind) s c refl) ∙ e)
+good-usable s c e = good-usable-as (formOf (c .cdb)) (formOf (c .cdb) .command) s c (sym (answer-as (formOf (c .cdb) .command) s c refl) ∙ e)
 
 -- ---- what a call leaves
 
 -- done
-pub done-after : (k : Kind) (s : Store) (c : Call) → formOf (c .cdb) .kind ≡ k → IsGood s c → after step s c ≡ storeBy (formOf (c .cdb)) k s c
+pub done-after : (k : Command) (s : Store) (c : Call) → formOf (c .cdb) .command ≡ k → IsGood s c → after step s c ≡ storeBy (formOf (c .cdb)) k s c
 unfolding after
 done-after k s c a e = ap (λ (r : Result). r .store) (step-as k s c a) ∙ if-good _ _ s (sym (answer-as k s c a) ∙ e)
 

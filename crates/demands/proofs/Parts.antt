@@ -13,16 +13,16 @@ use Rattle.answers.proofs.OrderLaws.{row-fails, first-append, next-first, next-
 use Rattle.rights.specs.declared.Action.the-variants.{Register, Reserve, Release, Clear, Preempt, RegisterIgnoring}
 use Rattle.forms.specs.declared.Tell.the-variants.{Ready, Inquiry, Capacity10, Capacity16, Keys, Reservation}
 use Rattle.forms.specs.declared.Move.the-variants.{Read, Write, Unmap}
-use Rattle.forms.specs.declared.Kind.{Kind}
-use Rattle.forms.specs.declared.Kind.the-variants.{Tells, Moves, Alters, Unknown, Unlisted}
+use Rattle.forms.specs.declared.Command.{Command}
+use Rattle.forms.specs.declared.Command.the-variants.{Tells, Moves, Alters, Unknown, Unlisted}
 use Rattle.forms.specs.declared.Form.{Form}
 use Rattle.forms.specs.Tests.{inquiryRows, transferRows, unmapRows, typeRows, fieldRows, formRows}
 use Rattle.forms.proofs.Refusing.{form-refusing}
-use Rattle.commands.specs.Store.{Store, Call, usable}
-use Rattle.commands.specs.Step.{callRows, storeRows, ownRows}
+use Rattle.store.specs.Store.{Store, Call, usable}
+use Rattle.store.specs.Step.{callRows, storeRows, ownRows}
 
 -- the answer to a call whose row is f and whose kind is k
-abbrev pub answerAs : Form → Kind → Store → Call → Answer
+abbrev pub answerAs : Form → Command → Store → Call → Answer
 answerAs f k s c = first (callRows c ++ (storeRows s ++ (formRows f k (c .cdb) ++ ownRows f k s c)))
 
 -- ---- the tests before a command's own all refuse
@@ -37,7 +37,7 @@ store-refusing s = tt
 
 -- ---- the parts
 
-module _ (f : Form) (k : Kind) (s : Store) (c : Call) where
+module _ (f : Form) (k : Command) (s : Store) (c : Call) where
   pub parts : answerAs f k s c ≡ next (first (callRows c)) (next (first (storeRows s)) (next (first (formRows f k (c .cdb))) (first (ownRows f k s c))))
   parts =
       first-append (callRows c) _ (call-refusing c)
@@ -75,7 +75,7 @@ next-refused Conflict b t = tt
 next-refused Unusable b t = tt
 next-refused Short b t = tt
 
-pub own-refused : (f : Form) (k : Kind) (s : Store) (c : Call) → T (refuses (first (ownRows f k s c))) → T (refuses (answerAs f k s c))
+pub own-refused : (f : Form) (k : Command) (s : Store) (c : Call) → T (refuses (first (ownRows f k s c))) → T (refuses (answerAs f k s c))
 own-refused f k s c t =
     subst (λ (a : Answer). T (refuses a)) (sym (parts f k s c)) (next-refused _ _ (next-refused _ _ (next-refused _ _ t)))
 
@@ -90,7 +90,7 @@ usable-passes s u = go (usable s) u
     go false t = absurd t
 
 -- two usable stores whose own rows agree answer alike
-pub own-decides : (f : Form) (k : Kind) (s t : Store) (c : Call) → T (usable s) → T (usable t) → first (ownRows f k s c) ≡ first (ownRows f k t c)
+pub own-decides : (f : Form) (k : Command) (s t : Store) (c : Call) → T (usable s) → T (usable t) → first (ownRows f k s c) ≡ first (ownRows f k t c)
     → answerAs f k s c ≡ answerAs f k t c
 own-decides f k s t c u v e =
     parts f k s c

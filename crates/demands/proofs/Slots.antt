@@ -20,17 +20,17 @@ use Rattle.descriptors.specs.declared.Descriptor.{Descriptor}
 use Rattle.rights.specs.Actions.{acted}
 use Rattle.forms.specs.declared.Move.{Move}
 use Rattle.forms.specs.declared.Move.the-variants.{Read, Write, Unmap}
-use Rattle.forms.specs.declared.Kind.{Kind}
-use Rattle.forms.specs.declared.Kind.the-variants.{Tells, Moves, Alters, Unknown, Unlisted}
+use Rattle.forms.specs.declared.Command.{Command}
+use Rattle.forms.specs.declared.Command.the-variants.{Tells, Moves, Alters, Unknown, Unlisted}
 use Rattle.forms.specs.declared.Form.{Form}
 use Rattle.forms.specs.Forms.{formOf, addressOf, sizeOf}
-use Rattle.commands.specs.declared.Unit.{Unit}
-use Rattle.commands.specs.Store.{Store, Call, Seen, usable, seenOf}
-use Rattle.commands.specs.Tell.{told, tellRows}
-use Rattle.commands.specs.Move.{rangeRows, moveRows, moved, fetched}
-use Rattle.commands.specs.Alter.{parametersOf, alterRows}
-use Rattle.commands.specs.Fresh.{freshStore}
-use Rattle.commands.specs.Step.{ownRows, answerBy, dataBy, storeBy, stepBy, step}
+use Rattle.store.specs.declared.Unit.{Unit}
+use Rattle.store.specs.Store.{Store, Call, Seen, usable, seenOf}
+use Rattle.store.specs.Tell.{told, tellRows}
+use Rattle.store.specs.Move.{rangeRows, moveRows, moved, fetched}
+use Rattle.store.specs.Alter.{parametersOf, alterRows}
+use Rattle.store.specs.Fresh.{freshStore}
+use Rattle.store.specs.Step.{ownRows, answerBy, dataBy, storeBy, stepBy, step}
 use Rattle.demands.specs.History.{after}
 use Rattle.demands.specs.Contents.{Asks, addressIn, countIn, IsGood, descriptorsOf, unmapEach, Same, seenAll}
 use Rattle.demands.proofs.Parts.{own-decides}
@@ -66,7 +66,7 @@ range-same f Write capacity p q c l =
 range-same f Unmap capacity p q c l = refl
 
 module _ (f : Form) (s t : Store) (c : Call) (e : Same s t) where
-  own-same : (k : Kind) → first (ownRows f k s c) ≡ first (ownRows f k t c)
+  own-same : (k : Command) → first (ownRows f k s c) ≡ first (ownRows f k t c)
   unfolding ownRows moveRows
   own-same (Tells x) = ap (λ (u : Unit). first (tellRows f x u c)) (e .unit)
   own-same (Moves m) =
@@ -76,7 +76,7 @@ module _ (f : Form) (s t : Store) (c : Call) (e : Same s t) where
   own-same Unknown = refl
   own-same Unlisted = refl
 
-  data-same : (k : Kind) → dataBy f k s c ≡ dataBy f k t c
+  data-same : (k : Command) → dataBy f k s c ≡ dataBy f k t c
   unfolding dataBy fetched
   data-same (Tells x) = ap (λ (u : Unit). told f x u (c .cdb)) (e .unit)
   data-same (Moves Read) = alike-reads (s .pool) (t .pool) (e .pool) (addressOf f (c .cdb)) (sizeOf f (c .cdb))
@@ -91,8 +91,8 @@ pub same-seen : (s t : Store) (c : Call) → T (usable s) → T (usable t) → S
 unfolding step stepBy answerBy
 same-seen s t c u v e =
     ap₂ (λ (a : Answer) (bs : List ℕ). seenOf a bs c)
-    (own-decides (formOf (c .cdb)) (formOf (c .cdb) .kind) s t c u v (own-same (formOf (c .cdb)) s t c e (formOf (c .cdb) .kind)))
-    (data-same (formOf (c .cdb)) s t c e (formOf (c .cdb) .kind))
+    (own-decides (formOf (c .cdb)) (formOf (c .cdb) .command) s t c u v (own-same (formOf (c .cdb)) s t c e (formOf (c .cdb) .command)))
+    (data-same (formOf (c .cdb)) s t c e (formOf (c .cdb) .command))
 
 -- ---- what is left
 
@@ -117,7 +117,7 @@ module _ (s t : Store) (c : Call) (u : T (usable s)) (v : T (usable t)) (e : Sam
       carry Alike _ _ _ _ (unmap-pool s c a g) (unmap-pool t c a h)
       (each-same (s .unit .capacity) (descriptorsOf c) (s .pool) (t .pool) (usable-pool s u) (rw (e .unit) (usable-pool t v)) (e .pool))
 
-  done-same : (k : Kind) → formOf (c .cdb) .kind ≡ k → Same (after step s c) (after step t c)
+  done-same : (k : Command) → formOf (c .cdb) .command ≡ k → Same (after step s c) (after step t c)
   unfolding storeBy
   done-same (Tells x) a = carry Same _ _ s t (done-after (Tells x) s c a g) (done-after (Tells x) t c a h) e
   done-same (Moves m) a = record { unit = moves-unit m s c a ∙ e .unit ∙ sym (moves-unit m t c a); pool = pool-same m a }
@@ -135,7 +135,7 @@ pub same-after : (s t : Store) (c : Call) → T (usable s) → T (usable t) → 
 same-after s t c u v e =
     let q : step s c .seen .answer ≡ step t c .seen .answer = ap (λ (x : Seen). x .answer) (same-seen s t c u v e) in
     good-cases (step s c .seen .answer)
-    (λ g. done-same s t c u v e g (sym q ∙ g) (formOf (c .cdb) .kind) refl)
+    (λ g. done-same s t c u v e g (sym q ∙ g) (formOf (c .cdb) .command) refl)
     (λ r. carry Same _ _ s t (refused-after s c r) (refused-after t c (rw q at r)) e)
 
 -- ---- for ever

@@ -18,14 +18,14 @@ use Rattle.map.specs.Pool.{Pool, free, unmapped, readBlock, readBlocks, writeBl
 use Rattle.map.proofs.Keeping.{poolOk-whole}
 use Rattle.map.proofs.Reading.{fresh-read, read-fresh, write-in, write-out, reads-same, read-after-write, length-readBlocks}
 use Rattle.forms.specs.declared.Move.the-variants.{Read, Write}
-use Rattle.forms.specs.declared.Kind.the-variants.{Moves}
+use Rattle.forms.specs.declared.Command.the-variants.{Moves}
 use Rattle.forms.specs.declared.Form.{Form}
 use Rattle.forms.specs.Forms.{formOf}
-use Rattle.commands.specs.declared.Unit.{Unit}
-use Rattle.commands.specs.Store.{Store, Call, Seen, Result, usable, seenOf}
-use Rattle.commands.specs.Move.{rangeRows, moveRows, moved, fetched}
-use Rattle.commands.specs.Fresh.{freshStore}
-use Rattle.commands.specs.Step.{ownRows, dataBy, step}
+use Rattle.store.specs.declared.Unit.{Unit}
+use Rattle.store.specs.Store.{Store, Call, Seen, Result, usable, seenOf}
+use Rattle.store.specs.Move.{rangeRows, moveRows, moved, fetched}
+use Rattle.store.specs.Fresh.{freshStore}
+use Rattle.store.specs.Step.{ownRows, dataBy, step}
 use Rattle.demands.specs.History.{after}
 use Rattle.demands.specs.Contents.{Asks, addressIn, countIn, IsGood, Outside, SameRange, Apart}
 use Rattle.demands.proofs.Parts.{own-decides}

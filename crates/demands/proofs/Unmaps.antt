@@ -15,9 +15,9 @@ use Rattle.map.proofs.Reading.{unmap-in, unmap-out, reads-same, reads-zeros}
 use Rattle.descriptors.specs.declared.Descriptor.{Descriptor}
 use Rattle.descriptors.specs.Descriptors.{descriptorAt, considered, unmapAll}
 use Rattle.forms.specs.declared.Move.the-variants.{Read, Unmap}
-use Rattle.commands.specs.Store.{Store, Call, seenOf}
-use Rattle.commands.specs.Move.{moved}
-use Rattle.commands.specs.Step.{step}
+use Rattle.store.specs.Store.{Store, Call, seenOf}
+use Rattle.store.specs.Move.{moved}
+use Rattle.store.specs.Step.{step}
 use Rattle.demands.specs.History.{after}
 use Rattle.demands.specs.Contents.{Asks, addressIn, countIn, IsGood, Outside, descriptorsFrom, descriptorsOf, unmapEach, covers, names}
 use Rattle.demands.proofs.Usable.{usable-stays}

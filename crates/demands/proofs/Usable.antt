@@ -25,16 +25,16 @@ use Rattle.rights.specs.Actions.{decisionRows, acted}
 use Rattle.rights.proofs.Keeping.{makes, acted-keeps}
 use Rattle.forms.specs.declared.Move.{Move}
 use Rattle.forms.specs.declared.Move.the-variants.{Read, Write, Unmap}
-use Rattle.forms.specs.declared.Kind.{Kind}
-use Rattle.forms.specs.declared.Kind.the-variants.{Tells, Moves, Alters, Unknown, Unlisted}
+use Rattle.forms.specs.declared.Command.{Command}
+use Rattle.forms.specs.declared.Command.the-variants.{Tells, Moves, Alters, Unknown, Unlisted}
 use Rattle.forms.specs.declared.Form.{Form}
 use Rattle.forms.specs.Forms.{formOf, addressOf, sizeOf}
 use Rattle.forms.specs.Tests.{typeRows, fieldRows, formRows}
-use Rattle.commands.specs.declared.Unit.{Unit}
-use Rattle.commands.specs.Store.{Store, Call, unitOk, usable}
-use Rattle.commands.specs.Move.{pastEnd, rangeRows, moveRows, moved}
-use Rattle.commands.specs.Alter.{parametersOf, alterRows}
-use Rattle.commands.specs.Step.{ownRows, answerBy, storeBy, stepBy, step}
+use Rattle.store.specs.declared.Unit.{Unit}
+use Rattle.store.specs.Store.{Store, Call, unitOk, usable}
+use Rattle.store.specs.Move.{pastEnd, rangeRows, moveRows, moved}
+use Rattle.store.specs.Alter.{parametersOf, alterRows}
+use Rattle.store.specs.Step.{ownRows, answerBy, storeBy, stepBy, step}
 use Rattle.demands.specs.History.{after}
 use Rattle.demands.proofs.Parts.{answerAs, good-nexus, good-form, good-own, either-store}
 
@@ -110,7 +110,7 @@ unfolding typeRows refuses
 type-right cdb e =
     not-not (isType (byte 2 cdb % 16)) (false→T _ (row-fails invalidField (not (isType (byte 2 cdb % 16))) _ tt (rows-after invalidField _ _ tt e)))
 
-pub form-fields : (f : Form) (k : Kind) (cdb : List ℕ) → first (formRows f k cdb) ≡ Good → first (fieldRows f k cdb) ≡ Good
+pub form-fields : (f : Form) (k : Command) (cdb : List ℕ) → first (formRows f k cdb) ≡ Good → first (fieldRows f k cdb) ≡ Good
 unfolding formRows refuses
 form-fields f k cdb e = rows-after invalidField _ _ tt (rows-after Unusable _ _ tt (rows-after notListed _ _ tt e))
 
@@ -146,7 +146,7 @@ alter-good : (f : Form) (a : Action) (s : Store) (c : Call) → first (ownRows f
 unfolding ownRows
 alter-good f a s c e = e
 
-done-usable : (f : Form) (k : Kind) (s : Store) (c : Call) → T (usable s) → answerAs f k s c ≡ Good → T (usable (storeBy f k s c))
+done-usable : (f : Form) (k : Command) (s : Store) (c : Call) → T (usable s) → answerAs f k s c ≡ Good → T (usable (storeBy f k s c))
 unfolding storeBy
 done-usable f (Tells t) s c u e = u
 done-usable f (Moves m) s c u e =
@@ -158,7 +158,7 @@ done-usable f (Alters a) s c u e =
 done-usable f Unknown s c u e = u
 done-usable f Unlisted s c u e = u
 
-left-usable : (f : Form) (k : Kind) (s : Store) (c : Call) (a : Answer) → T (usable s) → answerAs f k s c ≡ a → T (usable (ifGood a (storeBy f k s c) s))
+left-usable : (f : Form) (k : Command) (s : Store) (c : Call) (a : Answer) → T (usable s) → answerAs f k s c ≡ a → T (usable (ifGood a (storeBy f k s c) s))
 unfolding ifGoodBy refuses
 left-usable f k s c Good u e = done-usable f k s c u e
 left-usable f k s c (Refused n) u e = u
@@ -169,11 +169,11 @@ left-usable f k s c Short u e = u
 -- a usable store stays usable
 pub usable-stays : (s : Store) (c : Call) → T (usable s) → T (usable (after step s c))
 unfolding step stepBy after answerBy
-usable-stays s c u = left-usable (formOf (c .cdb)) (formOf (c .cdb) .kind) s c (answerBy (formOf (c .cdb)) s c) u refl
+usable-stays s c u = left-usable (formOf (c .cdb)) (formOf (c .cdb) .command) s c (answerBy (formOf (c .cdb)) s c) u refl
 
 -- ---- lengths
 
-done-owners : (f : Form) (k : Kind) (s : Store) (c : Call) → length (storeBy f k s c .pool .owners) ≡ length (s .pool .owners)
+done-owners : (f : Form) (k : Command) (s : Store) (c : Call) → length (storeBy f k s c .pool .owners) ≡ length (s .pool .owners)
 unfolding storeBy
 done-owners f (Tells t) s c = refl
 done-owners f (Moves m) s c = moved-owners f m (s .pool) c
@@ -181,7 +181,7 @@ done-owners f (Alters a) s c = refl
 done-owners f Unknown s c = refl
 done-owners f Unlisted s c = refl
 
-done-medium : (f : Form) (k : Kind) (s : Store) (c : Call) → length (storeBy f k s c .pool .medium) ≡ length (s .pool .medium)
+done-medium : (f : Form) (k : Command) (s : Store) (c : Call) → length (storeBy f k s c .pool .medium) ≡ length (s .pool .medium)
 unfolding storeBy
 done-medium f (Tells t) s c = refl
 done-medium f (Moves m) s c = moved-medium f m (s .pool) c
@@ -193,10 +193,10 @@ pub owners-stay : (s : Store) (c : Call) → length (after step s c .pool .owner
 unfolding step stepBy after
 owners-stay s c =
     either-store (λ x. length (x .pool .owners) ≡ length (s .pool .owners)) (answerBy (formOf (c .cdb)) s c) s _
-    (done-owners (formOf (c .cdb)) (formOf (c .cdb) .kind) s c) refl
+    (done-owners (formOf (c .cdb)) (formOf (c .cdb) .command) s c) refl
 
 pub medium-stays : (s : Store) (c : Call) → length (after step s c .pool .medium) ≡ length (s .pool .medium)
 unfolding step stepBy after
 medium-stays s c =
     either-store (λ x. length (x .pool .medium) ≡ length (s .pool .medium)) (answerBy (formOf (c .cdb)) s c) s _
-    (done-medium (formOf (c .cdb)) (formOf (c .cdb) .kind) s c) refl
+    (done-medium (formOf (c .cdb)) (formOf (c .cdb) .command) s c) refl

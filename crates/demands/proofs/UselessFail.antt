@@ -10,7 +10,7 @@ use lib.ListN.{length, take}
 use Rattle.fields.proofs.Tests.{and-l, and-r}
 use Rattle.answers.specs.declared.Answer.{Answer}
 use Rattle.answers.specs.Answers.{numberOf, statusOf}
-use Rattle.commands.specs.Store.{Store, Call, Seen}
+use Rattle.store.specs.Store.{Store, Call, Seen}
 use Rattle.demands.specs.History.{Build, after, kept, add, watched, heard}
 use Rattle.demands.specs.Demands.{Demand3}
 use Rattle.demands.specs.Useless.{blind, unmoved, constant, refusing, leaving}

@@ -21,15 +21,15 @@ use Rattle.rights.specs.Conflict.{conflict, stops}
 use Rattle.rights.specs.Rights.{isOneOf, noRights}
 use Rattle.forms.specs.declared.Move.{Move}
 use Rattle.forms.specs.declared.Move.the-variants.{Read, Write, Unmap}
-use Rattle.forms.specs.declared.Kind.{Kind}
-use Rattle.forms.specs.declared.Kind.the-variants.{Moves}
+use Rattle.forms.specs.declared.Command.{Command}
+use Rattle.forms.specs.declared.Command.the-variants.{Moves}
 use Rattle.forms.specs.Forms.{formOf}
 use Rattle.forms.specs.Tests.{formRows}
-use Rattle.commands.specs.declared.Unit.{Unit}
-use Rattle.commands.specs.Store.{Store, Call, usable}
-use Rattle.commands.specs.Move.{access, pastEnd, rangeRows, moveRows}
-use Rattle.commands.specs.Fresh.{freshUnit, freshStore}
-use Rattle.commands.specs.Step.{callRows, storeRows, ownRows, step}
+use Rattle.store.specs.declared.Unit.{Unit}
+use Rattle.store.specs.Store.{Store, Call, usable}
+use Rattle.store.specs.Move.{access, pastEnd, rangeRows, moveRows}
+use Rattle.store.specs.Fresh.{freshUnit, freshStore}
+use Rattle.store.specs.Step.{callRows, storeRows, ownRows, step}
 use Rattle.demands.specs.History.{after}
 use Rattle.demands.specs.Contents.{Asks, addressIn, countIn, IsGood, byItself, Reaches, Room, SameRange}
 use Rattle.demands.proofs.Parts.{parts, usable-passes}
@@ -43,7 +43,7 @@ next-pass : (a b : Answer) → a ≡ Good → next a b ≡ b
 next-pass a b e = ap (λ (x : Answer). next x b) e ∙ next-good b
 
 -- where a store is usable and a call is right by itself, the command's own tests decide
-pub own-answers : (k : Kind) (s : Store) (c : Call) → formOf (c .cdb) .kind ≡ k → T (usable s) → byItself c ≡ Good
+pub own-answers : (k : Command) (s : Store) (c : Call) → formOf (c .cdb) .command ≡ k → T (usable s) → byItself c ≡ Good
     → step s c .seen .answer ≡ first (ownRows (formOf (c .cdb)) k s c)
 unfolding byItself
 own-answers k s c e u g =
@@ -51,7 +51,7 @@ own-answers k s c e u g =
     ∙ next-pass (first (callRows c)) _ (next-first (first (callRows c)) _ g)
     ∙ next-pass (first (storeRows s)) _ (usable-passes s u)
     ∙ next-pass (first (formRows (formOf (c .cdb)) k (c .cdb))) _
-    (ap (λ (k : Kind). first (formRows (formOf (c .cdb)) k (c .cdb))) (sym e) ∙ next-second (first (callRows c)) _ g)
+    (ap (λ (k : Command). first (formRows (formOf (c .cdb)) k (c .cdb))) (sym e) ∙ next-second (first (callRows c)) _ g)
 
 -- "10" comes first
 pub conflict-first : (m : Move) (s : Store) (c : Call) → Asks m c → T (usable s) → byItself c ≡ Good

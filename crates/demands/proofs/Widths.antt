@@ -17,14 +17,14 @@ use Rattle.answers.specs.declared.Answer.{Answer}
 use Rattle.answers.specs.Order.{ifGood}
 use Rattle.forms.specs.declared.Move.{Move}
 use Rattle.forms.specs.declared.Move.the-variants.{Read, Write, Unmap}
-use Rattle.forms.specs.declared.Kind.the-variants.{Moves}
+use Rattle.forms.specs.declared.Command.the-variants.{Moves}
 use Rattle.forms.specs.declared.Form.{Form}
 use Rattle.forms.specs.Forms.{form, span, action, takes, lines, lookup, formFor, formOf, addressOf, sizeOf}
 use Rattle.forms.specs.Tests.{isUnlisted, transferRows, fieldRows, formRows}
 use Rattle.forms.proofs.Table.{sound-of}
-use Rattle.commands.specs.Store.{Store, Call, Seen, seenOf}
-use Rattle.commands.specs.Move.{pastEnd, rangeRows, moveRows, moved, fetched}
-use Rattle.commands.specs.Step.{callRows, ownRows, dataBy, storeBy, step}
+use Rattle.store.specs.Store.{Store, Call, Seen, seenOf}
+use Rattle.store.specs.Move.{pastEnd, rangeRows, moveRows, moved, fetched}
+use Rattle.store.specs.Step.{callRows, ownRows, dataBy, storeBy, step}
 use Rattle.demands.specs.Contents.{Asks, isTransfer, SaysSame, transferCdb, cdb10, cdb16, callWith}
 use Rattle.demands.proofs.Parts.{answerAs}
 use Rattle.demands.proofs.Moving.{resultAs, step-as}
@@ -89,7 +89,7 @@ module _ (f g : Form) (s : Store) (c d : Call) (e : Agree f g c d) where
 
 -- ---- of whole calls
 
-moves-long : (m : Move) (cdb : List ℕ) → formOf cdb .kind ≡ Moves m → 1 ≤ formOf cdb .long
+moves-long : (m : Move) (cdb : List ℕ) → formOf cdb .command ≡ Moves m → 1 ≤ formOf cdb .long
 unfolding isUnlisted
 moves-long m cdb e = sound-of cdb .long-least (ap isUnlisted e)
 
@@ -154,7 +154,7 @@ module _ (s : Store) (nexus address count : ℕ) (dataOut dataIn sense : List �
       → step s (callWith (cdb10 x address count) nexus dataOut dataIn sense) ≡ step s (callWith (cdb16 y address count) nexus dataOut dataIn sense)
   unfolding cdb10 cdb16 transferCdb bytes zeros byte formOf action addressOf sizeOf
   ten-sixteen m t x y p q =
-      same-transfer m t s _ _ (ap (λ (f : Form). f .kind) p) (ap (λ (f : Form). f .kind) q) (record {
+      same-transfer m t s _ _ (ap (λ (f : Form). f .command) p) (ap (λ (f : Form). f .command) q) (record {
         range = record {
           address = ap (λ (f : Form). addressOf f (cdb10 x address count)) p ∙ address-in x 4 1 2 1 address count a
               ∙ sym (ap (λ (f : Form). addressOf f (cdb16 y address count)) q ∙ address-in y 8 0 4 2 address count wider);

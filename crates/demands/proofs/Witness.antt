@@ -7,8 +7,8 @@ use Prim.Native.Nat.{ℕ}
 use native.Mathlib.Omega.{arith}
 use lib.Dec.{T}
 use Rattle.fields.proofs.Tests.{and-l, and-r}
-use Rattle.commands.specs.Store.{Call, usable}
-use Rattle.commands.specs.Step.{step}
+use Rattle.store.specs.Store.{Call, usable}
+use Rattle.store.specs.Step.{step}
 use Rattle.demands.specs.History.{watched, heard}
 use Rattle.demands.specs.Checker.{same}
 use Rattle.demands.specs.Bench.{read-10}

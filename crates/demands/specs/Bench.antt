@@ -7,8 +7,8 @@ use Rattle.fields.specs.Bytes.{zeros}
 use Rattle.fields.specs.Field.{bytes}
 use Rattle.rights.specs.declared.Place.{Place}
 use Rattle.rights.specs.Places.{unused}
-use Rattle.commands.specs.Store.{Store, Call}
-use Rattle.commands.specs.Fresh.{freshStore}
+use Rattle.store.specs.Store.{Store, Call}
+use Rattle.store.specs.Fresh.{freshStore}
 
 -- ---- stores
 

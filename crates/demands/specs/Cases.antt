@@ -4,7 +4,7 @@ use mathlib.Core.List.{List, [], _∷_, _++_}
 use Prim.Native.Nat.{ℕ, _+_, _-_, _^_}
 use Rattle.fields.specs.Bytes.{zeros}
 use Rattle.fields.specs.Field.{bytes}
-use Rattle.commands.specs.Store.{Store, Call}
+use Rattle.store.specs.Store.{Store, Call}
 use Rattle.demands.specs.Checker.{good, good-long, refused, conflicts, Expect, Case, _gives_}
 use Rattle.demands.specs.Bench.{block, new, two, made, capacity-10, capacity-16, read-10, read-16, write-10, write-16, unmap-1, out, in-call}
 

@@ -9,7 +9,7 @@ use Rattle.fields.specs.Field.{byte}
 use Rattle.answers.specs.declared.Status.{Status}
 use Rattle.answers.specs.declared.Status.the-variants.{Given, Nothing}
 use Rattle.answers.specs.Answers.{numberOf, statusOf}
-use Rattle.commands.specs.Store.{Store, Call, Seen, usable}
+use Rattle.store.specs.Store.{Store, Call, Seen, usable}
 use Rattle.demands.specs.History.{Build}
 
 -- ---- what one call must give

@@ -18,19 +18,19 @@ use Rattle.descriptors.specs.Descriptors.{descriptorAt, considered}
 use Rattle.rights.specs.Conflict.{conflict}
 use Rattle.forms.specs.declared.Move.{Move}
 use Rattle.forms.specs.declared.Move.the-variants.{Read, Write, Unmap}
-use Rattle.forms.specs.declared.Kind.the-variants.{Moves}
+use Rattle.forms.specs.declared.Command.the-variants.{Moves}
 use Rattle.forms.specs.Forms.{formOf, addressOf, sizeOf}
 use Rattle.forms.specs.Tests.{formRows}
-use Rattle.commands.specs.Store.{Store, Call, Seen, usable}
-use Rattle.commands.specs.Move.{access}
-use Rattle.commands.specs.Step.{callRows, step}
+use Rattle.store.specs.Store.{Store, Call, Seen, usable}
+use Rattle.store.specs.Move.{access}
+use Rattle.store.specs.Step.{callRows, step}
 use Rattle.demands.specs.History.{Build, after}
 
 -- ---- a call on the blocks
 
 -- it is a READ, a WRITE or an UNMAP, in whichever of its forms
 abbrev pub Asks : Move → Call → Type 0
-Asks m c = formOf (c .cdb) .kind ≡ Moves m
+Asks m c = formOf (c .cdb) .command ≡ Moves m
 
 -- its first block, and how many there are, as its own row of fields has them
 abbrev pub addressIn : Call → ℕ
@@ -45,7 +45,7 @@ IsGood s c = step s c .seen .answer ≡ Good
 
 -- what the tests of a call by itself answer: who calls, the buffers, and the fields of the CDB
 unfoldable pub byItself : Call → Answer
-byItself c = next (first (callRows c)) (first (formRows (formOf (c .cdb)) (formOf (c .cdb) .kind) (c .cdb)))
+byItself c = next (first (callRows c)) (first (formRows (formOf (c .cdb)) (formOf (c .cdb) .command) (c .cdb)))
 
 -- it comes as far as the command's own tests: the store is usable, the call is right by itself, and no reservation is in its way
 pub record Reaches (m : Move) (s : Store) (c : Call) : Type 0 where

@@ -16,9 +16,9 @@ use Rattle.map.specs.Pool.{readBlock}
 use Rattle.map.specs.Valid.{checked}
 use Rattle.forms.specs.declared.Move.{Move}
 use Rattle.forms.specs.declared.Move.the-variants.{Read, Write, Unmap}
-use Rattle.commands.specs.Store.{Store, Call, usable, seenOf}
-use Rattle.commands.specs.Fresh.{freshStore}
-use Rattle.commands.specs.Step.{step}
+use Rattle.store.specs.Store.{Store, Call, usable, seenOf}
+use Rattle.store.specs.Fresh.{freshStore}
+use Rattle.store.specs.Step.{step}
 use Rattle.demands.specs.History.{Build, after, isOut, isShutOut, watched, heard}
 use Rattle.demands.specs.Checker.{allPassed}
 use Rattle.demands.specs.Contents.{Asks, IsGood, countIn, SameRange, Apart, descriptorsOf, names, Same, seenAll, isTransfer, SaysSame}

@@ -8,7 +8,7 @@ use Rattle.fields.specs.Field.{field}
 use Rattle.rights.specs.Places.{registered}
 use Rattle.rights.specs.Rights.{isOneOf}
 use Rattle.forms.specs.Forms.{action}
-use Rattle.commands.specs.Store.{Store, Call}
+use Rattle.store.specs.Store.{Store, Call}
 use Rattle.demands.specs.History.{isOut}
 
 unfoldable pub generation : Store → ℕ

@@ -5,7 +5,7 @@ use mathlib.Core.List.{List, [], _∷_}
 use lib.Dec.{eqb}
 use Rattle.fields.specs.Field.{byte}
 use Rattle.rights.specs.Conflict.{shutOut}
-use Rattle.commands.specs.Store.{Store, Call, Seen, Result}
+use Rattle.store.specs.Store.{Store, Call, Seen, Result}
 
 -- a build: what it makes of each call on each store
 abbrev pub Build : Type 0

@@ -6,8 +6,8 @@ use Rattle.answers.specs.declared.Answer.{Answer}
 use Rattle.answers.specs.declared.Answer.the-variants.{Good, Unusable}
 use Rattle.answers.specs.Answers.{noRoom, senseAfter}
 use Rattle.map.specs.Pool.{free}
-use Rattle.commands.specs.Store.{Call, Seen}
-use Rattle.commands.specs.Step.{step}
+use Rattle.store.specs.Store.{Call, Seen}
+use Rattle.store.specs.Step.{step}
 use Rattle.demands.specs.History.{Build}
 
 -- a build that does not look at the store and leaves it alone: what is seen is a function of the call

@@ -3,7 +3,7 @@
 use mathlib.Core.List.{List, [], _∷_}
 use Prim.Native.Nat.{ℕ}
 use Rattle.answers.specs.Answers.{numberOf}
-use Rattle.commands.specs.Store.{Store, Call, Seen}
+use Rattle.store.specs.Store.{Store, Call, Seen}
 use Rattle.demands.specs.Bench.{made, two, block, ready, read-10, write-10, unmap-1, out, in-call}
 
 -- type 6, held by nexus 1; nexus 2 is registered, 3 and 4 are shut out. The blocks, and how full the pool is, differ

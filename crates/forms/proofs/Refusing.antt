@@ -6,13 +6,13 @@ use lib.Dec.{T}
 use Rattle.rights.specs.declared.Action.the-variants.{Register, Reserve, Release, Clear, Preempt, RegisterIgnoring}
 use Rattle.forms.specs.declared.Tell.the-variants.{Ready, Inquiry, Capacity10, Capacity16, Keys, Reservation}
 use Rattle.forms.specs.declared.Move.the-variants.{Read, Write, Unmap}
-use Rattle.forms.specs.declared.Kind.{Kind}
-use Rattle.forms.specs.declared.Kind.the-variants.{Tells, Moves, Alters, Unknown, Unlisted}
+use Rattle.forms.specs.declared.Command.{Command}
+use Rattle.forms.specs.declared.Command.the-variants.{Tells, Moves, Alters, Unknown, Unlisted}
 use Rattle.forms.specs.declared.Form.{Form}
 use Rattle.forms.specs.Tests.{inquiryRows, transferRows, unmapRows, typeRows, fieldRows, formRows}
 use Rattle.answers.specs.Order.{refuses, refusing, refusingBy}
 
-field-refusing : (f : Form) (k : Kind) (cdb : List ℕ) → T (refusing (fieldRows f k cdb))
+field-refusing : (f : Form) (k : Command) (cdb : List ℕ) → T (refusing (fieldRows f k cdb))
 unfolding fieldRows inquiryRows transferRows unmapRows typeRows refusingBy refuses
 field-refusing f (Tells Ready) cdb = tt
 field-refusing f (Tells Inquiry) cdb = tt
@@ -32,6 +32,6 @@ field-refusing f (Alters RegisterIgnoring) cdb = tt
 field-refusing f Unknown cdb = tt
 field-refusing f Unlisted cdb = tt
 
-pub form-refusing : (f : Form) (k : Kind) (cdb : List ℕ) → T (refusing (formRows f k cdb))
+pub form-refusing : (f : Form) (k : Command) (cdb : List ℕ) → T (refusing (formRows f k cdb))
 unfolding formRows refusingBy refuses
 form-refusing f k cdb = field-refusing f k cdb

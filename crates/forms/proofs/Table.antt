@@ -8,13 +8,12 @@ use native.Mathlib.Nat.{pow-le-pow-right, lt-of-lt-of-le}
 use lib.Dec.{T, eqb, leb, eqb→eq, leb→le, lit<}
 use Rattle.fields.specs.Field.{byte}
 use Rattle.fields.proofs.Tests.{and-l, and-r, or-other, nand-rest, not-not-intro, true→T, false→T}
-use Rattle.forms.specs.declared.Kind.{Kind}
-use Rattle.forms.specs.declared.Kind.the-variants.{Tells, Moves, Alters, Unknown, Unlisted}
+use Rattle.forms.specs.declared.Command.{Command}
+use Rattle.forms.specs.declared.Command.the-variants.{Tells, Moves, Alters, Unknown, Unlisted}
 use Rattle.forms.specs.declared.Span.{Span}
 use Rattle.forms.specs.declared.Form.{Form}
 use Rattle.forms.specs.Forms.{form, absent, Line, takes, lines, lookup, formFor, formOf, action}
 use Rattle.forms.specs.Tests.{isUnlisted}
-use Rattle.forms.specs.Sound.{Sound}
 
 -- a test of every line
 unfoldable pub all : (Line → Bool) → List Line → Bool
@@ -94,47 +93,16 @@ module _ (P : ℕ → Form → Bool) where
       go true e true x y = at (l .form) e (and-l (P (l .code) (l .form)) (P (l .code) other) here)
       go true e false x y = y (at other e (and-r (P (l .code) (l .form)) (P (l .code) other) here))
 
--- ---- sound
-
-unfoldable pub inside : Span → ℕ → Bool
-inside s most = leb (s .width) most && leb (s .at + s .width) 16
-
-unfoldable pub sound : Form → Bool
-sound f = (inside (f .address) 8 && inside (f .size) 4) && (leb (f .long) 16 && (isUnlisted (f .kind) || leb 1 (f .long)))
-
-sound-gives : (f : Form) → T (sound f) → Sound f
-unfolding sound inside
-sound-gives f t = record {
-  address-width = leb→le (f .address .width) 8 (search (and-l, and-r));
-  address-inside = leb→le (f .address .at + f .address .width) 16 (search (and-l, and-r));
-  size-width = leb→le (f .size .width) 4 (search (and-l, and-r));
-  size-inside = leb→le (f .size .at + f .size .width) 16 (search (and-l, and-r));
-  long-most = leb→le (f .long) 16 (search (and-l, and-r));
-  long-least = λ e. leb→le 1 (f .long) (or-other (isUnlisted (f .kind)) (leb 1 (f .long)) (false→T _ e) (search (and-l, and-r)));
-}
-
--- every row of the table is sound
-pub sound-for : (n a : ℕ) → Sound (formFor n a)
-unfolding formFor lines sound inside all obeys isUnlisted
-sound-for n a = sound-gives (formFor n a) (looked-up (λ _ f. sound f) n a (form Unlisted 0 absent absent) lines tt tt)
-
-pub sound-of : (cdb : List ℕ) → Sound (formOf cdb)
-unfolding formOf
-sound-of cdb = sound-for (byte 0 cdb) (action cdb)
-
-pub size-below : (w x : ℕ) → w ≤ 4 → x < 256 ^ w → x < 2 ^ 32
-size-below w x h k = lt-of-lt-of-le k (pow-le-pow-right (lit< tt) h)
-
 -- ---- which codes alter rights
 
-unfoldable pub isMoves : Kind → Bool
+unfoldable pub isMoves : Command → Bool
 isMoves (Tells t) = false
 isMoves (Moves m) = true
 isMoves (Alters a) = false
 isMoves Unknown = false
 isMoves Unlisted = false
 
-unfoldable pub isAlters : Kind → Bool
+unfoldable pub isAlters : Command → Bool
 isAlters (Tells t) = false
 isAlters (Moves m) = false
 isAlters (Alters a) = true
@@ -143,30 +111,30 @@ isAlters Unlisted = false
 
 -- 5Fh and no other code alters rights, and it moves nothing
 unfoldable outRule : ℕ → Form → Bool
-outRule n f = (not (isAlters (f .kind)) || eqb n 0x5F) && not (isMoves (f .kind) && eqb n 0x5F)
+outRule n f = (not (isAlters (f .command)) || eqb n 0x5F) && not (isMoves (f .command) && eqb n 0x5F)
 
 out-rule : (cdb : List ℕ) → T (outRule (byte 0 cdb) (formOf cdb))
 unfolding formOf formFor lines outRule all obeys isMoves isAlters
 out-rule cdb = looked-up outRule (byte 0 cdb) (action cdb) (form Unlisted 0 absent absent) lines tt tt
 
 module _ (cdb : List ℕ) where
-  pub alters-code : T (isAlters (formOf cdb .kind)) → T (eqb (byte 0 cdb) 0x5F)
+  pub alters-code : T (isAlters (formOf cdb .command)) → T (eqb (byte 0 cdb) 0x5F)
   unfolding outRule
   alters-code h =
-      or-other (not (isAlters (formOf cdb .kind))) (eqb (byte 0 cdb) 0x5F) (not-not-intro (isAlters (formOf cdb .kind)) h)
-      (and-l (not (isAlters (formOf cdb .kind)) || eqb (byte 0 cdb) 0x5F) (not (isMoves (formOf cdb .kind) && eqb (byte 0 cdb) 0x5F)) (out-rule cdb))
+      or-other (not (isAlters (formOf cdb .command))) (eqb (byte 0 cdb) 0x5F) (not-not-intro (isAlters (formOf cdb .command)) h)
+      (and-l (not (isAlters (formOf cdb .command)) || eqb (byte 0 cdb) 0x5F) (not (isMoves (formOf cdb .command) && eqb (byte 0 cdb) 0x5F)) (out-rule cdb))
 
-  pub moves-code : T (isMoves (formOf cdb .kind)) → T (not (eqb (byte 0 cdb) 0x5F))
+  pub moves-code : T (isMoves (formOf cdb .command)) → T (not (eqb (byte 0 cdb) 0x5F))
   unfolding outRule
   moves-code h =
-      nand-rest (isMoves (formOf cdb .kind)) (eqb (byte 0 cdb) 0x5F) h
-      (and-r (not (isAlters (formOf cdb .kind)) || eqb (byte 0 cdb) 0x5F) (not (isMoves (formOf cdb .kind) && eqb (byte 0 cdb) 0x5F)) (out-rule cdb))
+      nand-rest (isMoves (formOf cdb .command)) (eqb (byte 0 cdb) 0x5F) h
+      (and-r (not (isAlters (formOf cdb .command)) || eqb (byte 0 cdb) 0x5F) (not (isMoves (formOf cdb .command) && eqb (byte 0 cdb) 0x5F)) (out-rule cdb))
 
 -- ---- lengths
 
 -- "6, 10 or 16 as its code has it"; a code that is not listed has none
 unfoldable pub longRule : Form → Bool
-longRule f = cond (isUnlisted (f .kind)) (eqb (f .long) 0) (eqb (f .long) 6 || (eqb (f .long) 10 || eqb (f .long) 16))
+longRule f = cond (isUnlisted (f .command)) (eqb (f .long) 0) (eqb (f .long) 6 || (eqb (f .long) 10 || eqb (f .long) 16))
 
 pub long-rule : (cdb : List ℕ) → T (longRule (formOf cdb))
 unfolding formOf formFor lines longRule all obeys isUnlisted
@@ -174,10 +142,10 @@ long-rule cdb = looked-up (λ _ f. longRule f) (byte 0 cdb) (action cdb) (form U
 
 -- ---- the 10 and 16 byte forms of READ and WRITE differ in length and fields alone
 
-pub read-kind : (a b : ℕ) → formFor 0x28 a .kind ≡ formFor 0x88 b .kind
+pub read-command : (a b : ℕ) → formFor 0x28 a .command ≡ formFor 0x88 b .command
 unfolding formFor lookup lines takes
-read-kind a b = refl
+read-command a b = refl
 
-pub write-kind : (a b : ℕ) → formFor 0x2A a .kind ≡ formFor 0x8A b .kind
+pub write-command : (a b : ℕ) → formFor 0x2A a .command ≡ formFor 0x8A b .command
 unfolding formFor lookup lines takes
-write-kind a b = refl
+write-command a b = refl

@@ -10,8 +10,8 @@ use Rattle.forms.specs.declared.Tell.{Tell}
 use Rattle.forms.specs.declared.Tell.the-variants.{Ready, Inquiry, Capacity10, Capacity16, Keys, Reservation}
 use Rattle.forms.specs.declared.Move.{Move}
 use Rattle.forms.specs.declared.Move.the-variants.{Read, Write, Unmap}
-use Rattle.forms.specs.declared.Kind.{Kind}
-use Rattle.forms.specs.declared.Kind.the-variants.{Tells, Moves, Alters, Unknown, Unlisted}
+use Rattle.forms.specs.declared.Command.{Command}
+use Rattle.forms.specs.declared.Command.the-variants.{Tells, Moves, Alters, Unknown, Unlisted}
 use Rattle.forms.specs.declared.Span.{Span}
 use Rattle.forms.specs.declared.Form.{Form}
 
@@ -22,8 +22,8 @@ span at width = record { at = at; width = width }
 abbrev pub absent : Span
 absent = record { at = 0; width = 0 }
 
-abbrev pub form : Kind → ℕ → Span → Span → Form
-form kind long address size = record { kind = kind; long = long; address = address; size = size }
+abbrev pub form : Command → ℕ → Span → Span → Form
+form command long address size = record { command = command; long = long; address = address; size = size }
 
 -- "action in byte 1 bits 4-0"
 unfoldable pub action : List ℕ → ℕ
@@ -49,7 +49,7 @@ code n f = record { code = n; actions = any; form = f }
 abbrev pub with-action : ℕ → ℕ → Form → Line
 with-action n a f = record { code = n; actions = only a; form = f }
 
--- "Each operation code has its own row of fields": the kind, "6, 10 or 16 as its code has it", the block address, and the count, allocation length or list length
+-- "Each operation code has its own row of fields": the command, "6, 10 or 16 as its code has it", the block address, and the count, allocation length or list length
 unfoldable pub lines : List Line
 lines =
     code 0x00 (form (Tells Ready) 6 absent absent)
@@ -91,6 +91,18 @@ formOf cdb = formFor (byte 0 cdb) (action cdb)
 unfoldable pub addressOf : Form → List ℕ → ℕ
 addressOf f cdb = field (f .address .at) (f .address .width) cdb
 
--- the count of blocks, the allocation length or the list length
+-- the number that says how much: one field of the row, with a name for each of its three uses
 unfoldable pub sizeOf : Form → List ℕ → ℕ
 sizeOf f cdb = field (f .size .at) (f .size .width) cdb
+
+-- of READ and WRITE, the count of blocks
+abbrev pub countOf : Form → List ℕ → ℕ
+countOf = sizeOf
+
+-- of commands that tell, the allocation length
+abbrev pub allocationOf : Form → List ℕ → ℕ
+allocationOf = sizeOf
+
+-- of UNMAP and PERSISTENT RESERVE OUT, the length of the parameter list
+abbrev pub listLengthOf : Form → List ℕ → ℕ
+listLengthOf = sizeOf

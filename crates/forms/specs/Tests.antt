@@ -13,12 +13,12 @@ use Rattle.rights.specs.declared.Action.the-variants.{Register, Reserve, Releas
 use Rattle.rights.specs.Rights.{isType}
 use Rattle.forms.specs.declared.Tell.the-variants.{Ready, Inquiry, Capacity10, Capacity16, Keys, Reservation}
 use Rattle.forms.specs.declared.Move.the-variants.{Read, Write, Unmap}
-use Rattle.forms.specs.declared.Kind.{Kind}
-use Rattle.forms.specs.declared.Kind.the-variants.{Tells, Moves, Alters, Unknown, Unlisted}
+use Rattle.forms.specs.declared.Command.{Command}
+use Rattle.forms.specs.declared.Command.the-variants.{Tells, Moves, Alters, Unknown, Unlisted}
 use Rattle.forms.specs.declared.Form.{Form}
-use Rattle.forms.specs.Forms.{sizeOf}
+use Rattle.forms.specs.Forms.{countOf}
 
-unfoldable pub isUnlisted : Kind → Bool
+unfoldable pub isUnlisted : Command → Bool
 isUnlisted (Tells t) = false
 isUnlisted (Moves m) = false
 isUnlisted (Alters a) = false
@@ -31,7 +31,7 @@ inquiryRows cdb = invalidField if bit 0 (byte 1 cdb) ∷ invalidField if not (eq
 
 -- "Byte 1 bits 7-5 not 0, or count above 128: 2."
 unfoldable pub transferRows : Form → List ℕ → List Row
-transferRows f cdb = invalidField if leb 32 (byte 1 cdb) ∷ invalidField if ltb 128 (sizeOf f cdb) ∷ []
+transferRows f cdb = invalidField if leb 32 (byte 1 cdb) ∷ invalidField if ltb 128 (countOf f cdb) ∷ []
 
 -- "byte 1 bit 0 (ANCHOR) set: 2"
 unfoldable pub unmapRows : List ℕ → List Row
@@ -42,7 +42,7 @@ unfoldable pub typeRows : List ℕ → List Row
 typeRows cdb = invalidField if leb 16 (byte 2 cdb) ∷ invalidField if not (isType (byte 2 cdb % 16)) ∷ []
 
 -- a row for each field that can be wrong
-unfoldable pub fieldRows : Form → Kind → List ℕ → List Row
+unfoldable pub fieldRows : Form → Command → List ℕ → List Row
 fieldRows f (Tells Ready) cdb = []
 fieldRows f (Tells Inquiry) cdb = inquiryRows cdb
 fieldRows f (Tells Capacity10) cdb = []
@@ -63,7 +63,7 @@ fieldRows f Unknown cdb = invalidField if true ∷ []
 fieldRows f Unlisted cdb = []
 
 -- the control byte is the CDB's last by its code's length
-unfoldable pub formRows : Form → Kind → List ℕ → List Row
+unfoldable pub formRows : Form → Command → List ℕ → List Row
 formRows f k cdb =
     notListed if isUnlisted k
     ∷ Unusable if not (eqb (length cdb) (f .long))

@@ -12,8 +12,8 @@ use Rattle.answers.specs.Order.{ifGood, ifGoodBy, refuses}
 use Rattle.answers.proofs.OrderLaws.{row-stop}
 use Rattle.forms.specs.declared.Form.{Form}
 use Rattle.forms.specs.Forms.{formOf}
-use Rattle.commands.specs.Store.{Store, Call, Result, seenOf}
-use Rattle.commands.specs.Step.{callRows, answerBy, dataBy, storeBy, stepBy, step}
+use Rattle.store.specs.Store.{Store, Call, Result, seenOf}
+use Rattle.store.specs.Step.{callRows, answerBy, dataBy, storeBy, stepBy, step}
 
 far-answer : (f : Form) (s : Store) (c : Call) → 15 < c .nexus → answerBy f s c ≡ Unusable
 unfolding answerBy callRows

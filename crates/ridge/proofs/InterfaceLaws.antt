@@ -10,12 +10,12 @@ use lib.Dec.{ltb, eqb}
 use lib.ListN.{length}
 use Rattle.answers.specs.Answers.{numberOf}
 use Rattle.answers.specs.Order.{ifGood}
-use Rattle.commands.specs.declared.Outcome.{Outcome}
-use Rattle.commands.specs.declared.Made.{Made}
-use Rattle.commands.specs.Store.{Store, Call, Result}
-use Rattle.commands.specs.Step.{step}
-use Rattle.commands.specs.Fresh.{fresh, FreshResult}
-use Rattle.commands.specs.Contract.{storeOf, callOf, left, made}
+use Rattle.reply.specs.declared.Outcome.{Outcome}
+use Rattle.reply.specs.declared.Made.{Made}
+use Rattle.store.specs.Store.{Store, Call, Result}
+use Rattle.store.specs.Step.{step}
+use Rattle.store.specs.Fresh.{fresh, FreshResult}
+use Rattle.reply.specs.Contract.{storeOf, callOf, left, made}
 use Rattle.ridge.specs.Words.{fit, unitIn, wordsOf}
 use Rattle.ridge.specs.Interface.{Left, leftBy, unreadable, executed, FreshLeft, freshBy, freshened, pool, call, leaves, leavesFresh}
 use Rattle.ridge.proofs.FarNexus.{far-step}

@@ -9,8 +9,8 @@ use Rattle.answers.specs.declared.Answer.{Answer}
 use Rattle.answers.specs.declared.Answer.the-variants.{Good}
 use Rattle.answers.specs.Answers.{numberOf}
 use Rattle.map.specs.Pool.{Pool}
-use Rattle.commands.specs.Store.{Store, Call, Result}
-use Rattle.commands.specs.Step.{step}
+use Rattle.store.specs.Store.{Store, Call, Result}
+use Rattle.store.specs.Step.{step}
 use Rattle.demands.specs.History.{after}
 use Rattle.demands.proofs.Demand1.{refused-store, refused-data, refused-none}
 use Rattle.ridge.specs.Words.{fit, unitIn, wordsOf}

@@ -8,10 +8,10 @@ use lib.ListN.{length}
 use Rattle.answers.specs.Answers.{numberOf}
 use Rattle.answers.specs.Order.{ifGood}
 use Rattle.map.specs.Pool.{Pool}
-use Rattle.commands.specs.declared.Unit.{Unit}
-use Rattle.commands.specs.Store.{Store, Call, Seen, Result}
-use Rattle.commands.specs.Step.{step}
-use Rattle.commands.specs.Fresh.{fresh, FreshResult}
+use Rattle.store.specs.declared.Unit.{Unit}
+use Rattle.store.specs.Store.{Store, Call, Seen, Result}
+use Rattle.store.specs.Step.{step}
+use Rattle.store.specs.Fresh.{fresh, FreshResult}
 use Rattle.ridge.specs.Words.{fit, unitIn, wordsOf}
 
 -- all that a call leaves: document 01's answer number, the returned length, and every lent word and byte

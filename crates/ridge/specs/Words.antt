@@ -7,7 +7,7 @@ use lib.Dec.{eqb, ltb}
 use lib.ListN.{length, getD}
 use Rattle.rights.specs.declared.Place.{Place}
 use Rattle.rights.specs.Places.{unused}
-use Rattle.commands.specs.declared.Unit.{Unit}
+use Rattle.store.specs.declared.Unit.{Unit}
 
 -- the word i of the state
 unfoldable pub word : ℕ → List ℕ → ℕ

@@ -15,11 +15,11 @@ use Rattle.fields.proofs.BytesLaws.{zeros-replicate, put-next, put-none}
 use Rattle.answers.specs.declared.Answer.the-variants.{Good}
 use Rattle.answers.specs.Order.{first, ifGood, firstOf, ifGoodBy, refuses}
 use Rattle.map.specs.Valid.{capacityOk, slotsOk}
-use Rattle.commands.specs.declared.Unit.{Unit}
-use Rattle.commands.specs.Store.{Store, Call, Seen, Result}
-use Rattle.commands.specs.Step.{step}
-use Rattle.commands.specs.Fresh.{FreshResult, fresh, freshAnswer, freshUnit, freshStore}
-use Rattle.commands.specs.Contract.{storeOf, callOf}
+use Rattle.store.specs.declared.Unit.{Unit}
+use Rattle.store.specs.Store.{Store, Call, Seen, Result}
+use Rattle.store.specs.Step.{step}
+use Rattle.store.specs.Fresh.{FreshResult, fresh, freshAnswer, freshUnit, freshStore}
+use Rattle.reply.specs.Contract.{storeOf, callOf}
 use Rattle.sheet.specs.Sheet.{calls, nexusOf, cdbLength, outLength, bodyEnd, bodiesEnd, bodiesBegin, goodSheet, callAt}
 use Rattle.sheet.specs.Printed.{heading, badSheet, seenLine, linesFrom, benchStore, linesOf, printed}
 use Rattle.sheet.specs.Put.{Puts}

@@ -16,16 +16,16 @@ use Rattle.answers.specs.Order.{Row, _if_, first, ifGood, ifGoodBy, refuses, re
 use Rattle.answers.proofs.OrderLaws.{row-fails, rows-after, first-append, next-second}
 use Rattle.map.specs.Pool.{Pool, mapped, place, readBlock, readBlocks}
 use Rattle.forms.specs.declared.Move.the-variants.{Read, Write, Unmap}
-use Rattle.forms.specs.declared.Kind.{Kind}
-use Rattle.forms.specs.declared.Kind.the-variants.{Tells, Moves, Alters, Unknown, Unlisted}
+use Rattle.forms.specs.declared.Command.{Command}
+use Rattle.forms.specs.declared.Command.the-variants.{Tells, Moves, Alters, Unknown, Unlisted}
 use Rattle.forms.specs.declared.Form.{Form}
 use Rattle.forms.specs.Forms.{formOf, addressOf, sizeOf}
 use Rattle.forms.specs.Tests.{formRows}
-use Rattle.commands.specs.Store.{Store, Call, seenOf}
-use Rattle.commands.specs.Tell.{told, tellRows}
-use Rattle.commands.specs.Move.{moveRows, rangeRows, fetched}
+use Rattle.store.specs.Store.{Store, Call, seenOf}
+use Rattle.store.specs.Tell.{told, tellRows}
+use Rattle.store.specs.Move.{moveRows, rangeRows, fetched}
 use Rattle.forms.proofs.Refusing.{form-refusing}
-use Rattle.commands.specs.Step.{callRows, storeRows, ownRows, answerBy, dataBy, stepBy, step}
+use Rattle.store.specs.Step.{callRows, storeRows, ownRows, answerBy, dataBy, stepBy, step}
 
 -- ---- a block is read as at most 512 bytes
 
@@ -42,7 +42,7 @@ blocks-most p a (suc n) =
 
 -- ---- where the call is GOOD, so are the command's own tests
 
-own-good : (f : Form) (k : Kind) (s : Store) (c : Call)
+own-good : (f : Form) (k : Command) (s : Store) (c : Call)
     → first (callRows c ++ (storeRows s ++ (formRows f k (c .cdb) ++ ownRows f k s c))) ≡ Good → first (ownRows f k s c) ≡ Good
 unfolding callRows storeRows refusingBy refuses
 own-good f k s c e =
@@ -52,7 +52,7 @@ own-good f k s c e =
 
 -- ---- each command's own tests see to it
 
-own-fits : (f : Form) (k : Kind) (s : Store) (c : Call) → first (ownRows f k s c) ≡ Good → length (dataBy f k s c) ≤ length (c .dataIn)
+own-fits : (f : Form) (k : Command) (s : Store) (c : Call) → first (ownRows f k s c) ≡ Good → length (dataBy f k s c) ≤ length (c .dataIn)
 unfolding ownRows dataBy tellRows moveRows rangeRows fetched refuses
 own-fits f (Tells t) s c e = ltb-false _ _ (row-fails _ _ _ tt e)
 own-fits f (Moves Read) s c e =
@@ -75,4 +75,4 @@ pub returned-fits : (s : Store) (c : Call) → step s c .seen .returned ≤ leng
 unfolding step stepBy seenOf answerBy
 returned-fits s c =
     let f = formOf (c .cdb) in
-    good-fits _ (length (dataBy f (f .kind) s c)) (length (c .dataIn)) (λ e. own-fits f (f .kind) s c (own-good f (f .kind) s c e))
+    good-fits _ (length (dataBy f (f .command) s c)) (length (c .dataIn)) (λ e. own-fits f (f .command) s c (own-good f (f .command) s c e))

@@ -5,9 +5,9 @@ use mathlib.Core.Bool.{Bool, true, false, cond}
 use mathlib.Core.List.{List, [], _∷_, _++_}
 use Prim.Native.Nat.{ℕ, zero, suc, _+_}
 use Rattle.fields.specs.Bytes.{zeros}
-use Rattle.commands.specs.Store.{Store, Call, Seen, Result}
-use Rattle.commands.specs.Step.{step}
-use Rattle.commands.specs.Fresh.{freshStore}
+use Rattle.store.specs.Store.{Store, Call, Seen, Result}
+use Rattle.store.specs.Step.{step}
+use Rattle.store.specs.Fresh.{freshStore}
 use Rattle.sheet.specs.Sheet.{calls, bodyEnd, bodiesBegin, goodSheet, callAt}
 use Rattle.sheet.specs.Line.{lineOf}
 use Rattle.sheet.specs.Put.{Puts}

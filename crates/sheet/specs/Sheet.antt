@@ -7,7 +7,7 @@ use lib.Dec.{eqb, leb}
 use lib.ListN.{length}
 use Rattle.fields.specs.Bytes.{part, zeros}
 use Rattle.fields.specs.Field.{byte, field}
-use Rattle.commands.specs.Store.{Call}
+use Rattle.store.specs.Store.{Call}
 
 unfoldable pub calls : List ℕ → ℕ
 calls sheet = byte 0 sheet

@@ -1,6 +1,6 @@
 -- `commands::serve::access_of` meets its contract. Assumes nothing.
 use borrow.Author.Needs.{needs}
-use Rattle.commands.specs.Move.{access}
+use Rattle.store.specs.Move.{access}
 use Rattle.commands.proofs.serve.access_of.Statement.{statement}
 use Rattle.commands.proofs.serve.access_of.Tie as tie
 

@@ -1,6 +1,6 @@
 -- `commands::serve::act` meets its contract. Assumes nothing.
 use borrow.Author.Needs.{needs}
-use Rattle.commands.proofs.TellLaws.{tells-served, alters-served, unknown-served, unlisted-served}
+use Rattle.tell.proofs.TellLaws.{tells-served, alters-served, unknown-served, unlisted-served}
 use Rattle.commands.proofs.StepLaws.{rows-at, served-at}
 use Rattle.commands.proofs.serve.act.Statement.{statement}
 use Rattle.commands.proofs.serve.act.Tie as tie

@@ -2,7 +2,7 @@
 -- Assumes nothing.
 use mathlib.Core.Path.{ap, _∙_}
 use borrow.Author.Needs.{needs}
-use Rattle.commands.specs.Fresh.{FreshResult}
+use Rattle.store.specs.Fresh.{FreshResult}
 use Rattle.sheet.proofs.CallLaws.{fresh-is}
 use Rattle.sheet.proofs.calls.fresh_unit.Statement.{statement}
 use Rattle.sheet.proofs.calls.fresh_unit.Tie as tie

@@ -5,7 +5,7 @@ use Prim.Native.Nat.{_+_, _-_, _*_, _≤_}
 use native.Mathlib.Omega.{arith}
 use lib.ListN.{length}
 use borrow.Author.Needs.{needs}
-use Rattle.commands.specs.Contract.{storeOf}
+use Rattle.reply.specs.Contract.{storeOf}
 use Rattle.sheet.specs.Printed.{linesFrom, linesOf}
 use Rattle.sheet.specs.Sheet.{bodiesEnd}
 use Rattle.sheet.proofs.CallLaws.{fresh-store, good-calls, good-length, body-begins, body-ends, bodies-begin, ToCome, come-begin, come-turn, come-done}

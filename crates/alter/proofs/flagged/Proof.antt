@@ -1,0 +1,27 @@
+-- `commands::alter::flagged` meets its contract. Assumes nothing.
+use mathlib.Core.Path.{sym, _∙_}
+use borrow.Author.Needs.{needs}
+use Rattle.alter.proofs.flagged.Statement.{statement}
+use Rattle.alter.proofs.flagged.Tie as tie
+
+bit-requires : tie.Need-bit-requires
+bit-requires c κs = search needs
+
+returns : tie.Need-returns
+returns c = simp (sym (c .before .bit .ensures) ∙ (c .if1 .taken))
+
+bit-requires-2 : tie.Need-bit-requires-2
+bit-requires-2 c κs = search needs
+
+returns-2 : tie.Need-returns-2
+returns-2 c = simp (sym (c .before .before .before .bit .ensures) ∙ (c .before .before .if1 .left), sym (c .before .bit2 .ensures) ∙ (c .if2 .taken))
+
+bit-requires-3 : tie.Need-bit-requires-3
+bit-requires-3 c κs = search needs
+
+returns-3 : tie.Need-returns-3
+returns-3 c = simp (sym (c .before .before .before .before .bit .ensures) ∙ (c .before .before .before .if1 .left), sym (c .before .before .bit2 .ensures) ∙ (c .before .if2 .left), (c .bit3 .ensures))
+
+pub flagged-spec : {M : Type 1} → statement M
+flagged-spec =
+    tie.close (tie.spec bit-requires returns bit-requires-2 returns-2 bit-requires-3 returns-3)

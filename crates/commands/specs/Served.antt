@@ -1,0 +1,51 @@
+-- What the contracts of one call speak of: the tests before any command, and all that a command leaves.
+-- Assumes nothing.
+use mathlib.Core.Bool.{Bool, not, _&&_}
+use mathlib.Core.List.{List, _++_}
+use Prim.Native.Nat.{ℕ}
+use lib.Dec.{eqb, ltb}
+use lib.ListN.{length}
+use Rattle.answers.specs.declared.Answer.{Answer}
+use Rattle.answers.specs.Order.{first}
+use Rattle.rights.specs.Bounds.{lastNexus}
+use Rattle.rights.specs.declared.Decision.{Decision}
+use Rattle.forms.specs.declared.Command.{Command}
+use Rattle.forms.specs.declared.Form.{Form}
+use Rattle.forms.specs.Tests.{formRows}
+use Rattle.store.specs.declared.Unit.{Unit}
+use Rattle.store.specs.Store.{Store, Call, usable}
+use Rattle.store.specs.Step.{ownRows, dataBy, storeBy}
+use Rattle.reply.specs.declared.Reply.{Reply}
+use Rattle.reply.specs.declared.Outcome.{Outcome}
+use Rattle.reply.specs.Reply.{Served, serves}
+
+-- nothing refuses the call before its command is looked at
+unfoldable pub readyFor : Store → Call → Bool
+readyFor s c =
+    not (ltb lastNexus (c .nexus)) && (not (eqb (length (c .cdb)) 0) && (not (ltb (length (c .sense)) 18) && usable s))
+
+-- the outcome of a reply
+abbrev pub replying : Reply → Unit → Outcome
+replying reply unit = record { answer = reply .answer; returned = reply .returned; unit = unit }
+
+-- the outcome of an answer that returns no bytes
+abbrev pub bare : Answer → Unit → Outcome
+bare answer unit = record { answer = answer; returned = 0; unit = unit }
+
+-- the outcome of a decision on the rights of a unit
+abbrev pub altersTo : Unit → Decision → Outcome
+altersTo u d = bare (d .answer) (record { capacity = u .capacity; rights = d .rights })
+
+-- a command, after the tests of the CDB by itself
+unfoldable pub servedBy : Form → Command → Store → Call → Served
+servedBy f k s c = serves (first (ownRows f k s c)) (dataBy f k s c) (storeBy f k s c) s (c .dataIn)
+
+-- with them
+unfoldable pub servedWith : Form → Store → Call → Served
+servedWith f s c =
+    serves
+    (first (formRows f (f .command) (c .cdb) ++ ownRows f (f .command) s c))
+    (dataBy f (f .command) s c)
+    (storeBy f (f .command) s c)
+    s
+    (c .dataIn)

@@ -1,0 +1,55 @@
+-- `forms::tests::is_unlisted` meets its contract. Assumes nothing.
+use borrow.Author.Needs.{needs}
+use Rattle.decoder.proofs.tests.is_unlisted.Statement.{statement}
+use Rattle.decoder.proofs.tests.is_unlisted.Tie as tie
+use Rattle.forms.specs.Tests.{isUnlisted}
+
+enum-told : tie.Need-enum-told
+enum-told c = search needs
+
+enum-told-2 : tie.Need-enum-told-2
+enum-told-2 c = search needs
+
+enum-told-3 : tie.Need-enum-told-3
+enum-told-3 c = search needs
+
+enum-told-4 : tie.Need-enum-told-4
+enum-told-4 c = search needs
+
+enum-told-5 : tie.Need-enum-told-5
+enum-told-5 c = search needs
+
+returns : tie.Need-returns
+unfolding isUnlisted
+returns c = simp (c .enum-told .given .1)
+
+returns-2 : tie.Need-returns-2
+unfolding isUnlisted
+returns-2 c = simp (c .enum-told2 .given .1)
+
+returns-3 : tie.Need-returns-3
+unfolding isUnlisted
+returns-3 c = simp (c .enum-told3 .given .1)
+
+returns-4 : tie.Need-returns-4
+unfolding isUnlisted
+returns-4 c = simp (c .enum-told4 .given .1)
+
+returns-5 : tie.Need-returns-5
+unfolding isUnlisted
+returns-5 c = simp (c .enum-told5 .given .1)
+
+pub is-unlisted-spec : {M : Type 1} → statement M
+is-unlisted-spec =
+    tie.close
+    (tie.spec
+    enum-told
+    enum-told-2
+    enum-told-3
+    enum-told-4
+    enum-told-5
+    returns
+    returns-2
+    returns-3
+    returns-4
+    returns-5)

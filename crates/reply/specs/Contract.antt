@@ -1,0 +1,37 @@
+-- What the contracts speak of: the store and the call that the lent buffers make, and what is left of them.
+-- Assumes nothing.
+use mathlib.Core.List.{List, []}
+use Prim.Native.Nat.{ℕ}
+use Rattle.map.specs.Write.{pool}
+use Rattle.store.specs.declared.Unit.{Unit}
+use Rattle.store.specs.Store.{Store, Call, Result}
+use Rattle.store.specs.Fresh.{FreshResult}
+use Rattle.reply.specs.declared.Outcome.{Outcome}
+use Rattle.reply.specs.declared.Made.{Made}
+
+-- the store of a unit and the pool that is lent to it
+abbrev pub storeOf : Unit → List ℕ → List ℕ → Store
+storeOf unit owners medium = record { unit = unit; pool = pool owners medium }
+
+abbrev pub callOf : ℕ → List ℕ → List ℕ → List ℕ → List ℕ → Call
+callOf nexus cdb dataOut dataIn sense =
+    record { nexus = nexus; cdb = cdb; dataOut = dataOut; dataIn = dataIn; sense = sense }
+
+-- a call as far as a command looks at it that returns bytes
+abbrev pub asking : List ℕ → List ℕ → Call
+asking cdb dataIn = callOf 0 cdb [] dataIn []
+
+-- and one that is given them
+abbrev pub giving : List ℕ → List ℕ → Call
+giving cdb dataOut = callOf 0 cdb dataOut [] []
+
+-- all that a call leaves
+abbrev pub left : Outcome → List ℕ → List ℕ → List ℕ → List ℕ → Result
+left r owners medium dataIn sense = record {
+  seen = record { answer = r .answer; returned = r .returned; dataIn = dataIn; sense = sense };
+  store = storeOf (r .unit) owners medium;
+}
+
+-- all that making a fresh store leaves
+abbrev pub made : Made → List ℕ → FreshResult
+made r owners = record { answer = r .answer; unit = r .unit; owners = owners }

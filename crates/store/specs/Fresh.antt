@@ -1,0 +1,37 @@
+-- A fresh store: "no mapping, registration or reservation and generation 0. Making one is no call of a history and leaves the medium bytes;
+-- bad bounds give 11 and leave all." Assumes nothing.
+use mathlib.Core.Bool.{not}
+use mathlib.Core.List.{List, [], _∷_}
+use Prim.Native.Nat.{ℕ}
+use lib.ListN.{length}
+use Rattle.fields.specs.Bytes.{zeros}
+use Rattle.answers.specs.declared.Answer.{Answer}
+use Rattle.answers.specs.declared.Answer.the-variants.{Unusable}
+use Rattle.answers.specs.Order.{Row, _if_, first, ifGood}
+use Rattle.map.specs.Valid.{capacityOk, slotsOk}
+use Rattle.rights.specs.Rights.{noRights}
+use Rattle.store.specs.declared.Unit.{Unit}
+use Rattle.store.specs.Store.{Store}
+
+unfoldable pub freshUnit : ℕ → Unit
+freshUnit capacity = record { capacity = capacity; rights = noRights }
+
+-- the bounds alone are tested: the medium is not lent
+unfoldable pub freshAnswer : ℕ → ℕ → Answer
+freshAnswer capacity slots = first (Unusable if not (capacityOk capacity) ∷ Unusable if not (slotsOk slots) ∷ [])
+
+-- what making a store leaves; the unit of a refusal has no blocks, so that every call on it is refused
+pub record FreshResult : Type 0 where
+  pub answer : Answer
+  pub unit : Unit
+  pub owners : List ℕ
+
+unfoldable pub fresh : ℕ → List ℕ → FreshResult
+fresh capacity owners = record {
+  answer = freshAnswer capacity (length owners);
+  unit = ifGood (freshAnswer capacity (length owners)) (freshUnit capacity) (freshUnit 0);
+  owners = ifGood (freshAnswer capacity (length owners)) (zeros (length owners)) owners;
+}
+
+unfoldable pub freshStore : ℕ → ℕ → List ℕ → Store
+freshStore capacity slots medium = record { unit = freshUnit capacity; pool = record { owners = zeros slots; medium = medium } }

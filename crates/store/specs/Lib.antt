@@ -1,0 +1,6 @@
+pub mod Store
+pub mod Tell
+pub mod Move
+pub mod Alter
+pub mod Step
+pub mod Fresh

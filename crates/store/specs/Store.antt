@@ -1,0 +1,55 @@
+-- The store, a call, and what comes of it.
+-- Assumes nothing.
+use mathlib.Core.Bool.{Bool, _&&_}
+use mathlib.Core.List.{List}
+use Prim.Native.Nat.{ℕ}
+use lib.ListN.{length}
+use Rattle.fields.specs.Bytes.{put}
+use Rattle.answers.specs.declared.Answer.{Answer}
+use Rattle.answers.specs.Answers.{senseAfter}
+use Rattle.answers.specs.Order.{ifGood}
+use Rattle.map.specs.Pool.{Pool}
+use Rattle.map.specs.Valid.{capacityOk, poolOk}
+use Rattle.rights.specs.Rights.{rightsOk}
+use Rattle.store.specs.declared.Unit.{Unit}
+
+-- what everybody may know, and the blocks
+pub record Store : Type 0 where
+  pub unit : Unit
+  pub pool : Pool
+
+-- who calls, with what, and the buffers lent for the answer
+pub record Call : Type 0 where
+  pub nexus : ℕ
+  pub cdb : List ℕ
+  pub dataOut : List ℕ
+  pub dataIn : List ℕ
+  pub sense : List ℕ
+
+-- what the caller sees
+pub record Seen : Type 0 where
+  pub answer : Answer
+  pub returned : ℕ
+  pub dataIn : List ℕ
+  pub sense : List ℕ
+
+pub record Result : Type 0 where
+  pub seen : Seen
+  pub store : Store
+
+-- within its bounds and valid, as far as everybody may know
+unfoldable pub unitOk : Unit → Bool
+unitOk u = capacityOk (u .capacity) && rightsOk (u .rights)
+
+-- within its bounds, lent its whole pool, and in a valid state
+unfoldable pub usable : Store → Bool
+usable s = unitOk (s .unit) && poolOk (s .unit .capacity) (s .pool)
+
+-- "Data-in is written only on 0, and only its first returned bytes."
+unfoldable pub seenOf : Answer → List ℕ → Call → Seen
+seenOf a bs c = record {
+  answer = a;
+  returned = ifGood a (length bs) 0;
+  dataIn = ifGood a (put (c .dataIn) 0 bs) (c .dataIn);
+  sense = senseAfter a (c .sense);
+}

@@ -13,7 +13,9 @@ use Rattle.map.specs.Valid.{capacityOk, slotsOk}
 use Rattle.rights.specs.declared.Rights.{Rights}
 use Rattle.rights.specs.Rights.{noRights}
 use Rattle.store.specs.Fresh.{freshUnit, freshAnswer, fresh}
+use Rattle.reply.specs.declared.Made.{Made}
 use Rattle.reply.specs.Contract.{made}
+use Rattle.commands.specs.Served.{unmade}
 
 module _ (capacity : ℕ) (owners : List ℕ) where
   bad-capacity : capacityOk capacity ≡ false → freshAnswer capacity (length owners) ≡ Unusable
@@ -28,21 +30,18 @@ module _ (capacity : ℕ) (owners : List ℕ) where
   unfolding freshAnswer
   no-fault e h = row-pass Unusable _ _ (ap not e) ∙ row-pass Unusable _ _ (ap not h) ∙ row-end
 
-  module _ (rights : Rights) (none : rights ≡ noRights) where
-    refused : freshAnswer capacity (length owners) ≡ Unusable
-        → made (record { answer = Unusable; unit = record { capacity = 0; rights = rights } }) owners ≡ fresh capacity owners
-    unfolding fresh freshUnit ifGoodBy refuses
-    refused e = rw (none, e)
+  module _ (r : Made) (e : r ≡ unmade) where
+    refused : freshAnswer capacity (length owners) ≡ Unusable → made r owners ≡ fresh capacity owners
+    unfolding fresh ifGoodBy refuses
+    refused h = rw (e, h)
 
-    pub fresh-capacity : capacityOk capacity ≡ false
-        → made (record { answer = Unusable; unit = record { capacity = 0; rights = rights } }) owners ≡ fresh capacity owners
-    fresh-capacity e = refused (bad-capacity e)
+    pub fresh-capacity : capacityOk capacity ≡ false → made r owners ≡ fresh capacity owners
+    fresh-capacity h = refused (bad-capacity h)
 
-    pub fresh-slots : capacityOk capacity ≡ true → slotsOk (length owners) ≡ false
-        → made (record { answer = Unusable; unit = record { capacity = 0; rights = rights } }) owners ≡ fresh capacity owners
-    fresh-slots e h = refused (bad-slots e h)
+    pub fresh-slots : capacityOk capacity ≡ true → slotsOk (length owners) ≡ false → made r owners ≡ fresh capacity owners
+    fresh-slots h k = refused (bad-slots h k)
 
-    pub fresh-made : (after : List ℕ) → capacityOk capacity ≡ true → slotsOk (length owners) ≡ true → after ≡ zeros (length owners)
-        → made (record { answer = Good; unit = record { capacity = capacity; rights = rights } }) after ≡ fresh capacity owners
-    unfolding fresh freshUnit ifGoodBy refuses
-    fresh-made after e h k = rw (none, k, no-fault e h)
+  pub fresh-made : (rights : Rights) (after : List ℕ) → rights ≡ noRights → capacityOk capacity ≡ true → slotsOk (length owners) ≡ true → after ≡ zeros (length owners)
+      → made (record { answer = Good; unit = record { capacity = capacity; rights = rights } }) after ≡ fresh capacity owners
+  unfolding fresh freshUnit ifGoodBy refuses
+  fresh-made rights after none e h k = rw (none, k, no-fault e h)

@@ -6,6 +6,7 @@ use Prim.Native.Nat.{ℕ}
 use lib.Dec.{eqb, ltb}
 use lib.ListN.{length}
 use Rattle.answers.specs.declared.Answer.{Answer}
+use Rattle.answers.specs.declared.Answer.the-variants.{Unusable}
 use Rattle.answers.specs.Order.{first}
 use Rattle.rights.specs.Bounds.{lastNexus}
 use Rattle.rights.specs.declared.Decision.{Decision}
@@ -15,8 +16,10 @@ use Rattle.forms.specs.Tests.{formRows}
 use Rattle.store.specs.declared.Unit.{Unit}
 use Rattle.store.specs.Store.{Store, Call, usable}
 use Rattle.store.specs.Step.{ownRows, dataBy, storeBy}
+use Rattle.store.specs.Fresh.{freshUnit}
 use Rattle.reply.specs.declared.Reply.{Reply}
 use Rattle.reply.specs.declared.Outcome.{Outcome}
+use Rattle.reply.specs.declared.Made.{Made}
 use Rattle.reply.specs.Reply.{Served, serves}
 
 -- nothing refuses the call before its command is looked at
@@ -49,3 +52,8 @@ servedWith f s c =
     (storeBy f (f .command) s c)
     s
     (c .dataIn)
+
+-- ---- a fresh store that bad bounds refuse
+
+abbrev pub unmade : Made
+unmade = record { answer = Unusable; unit = freshUnit 0 }

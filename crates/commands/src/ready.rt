@@ -6,8 +6,9 @@ ghost use Rattle.map.specs.Valid.{capacityOk, slotsOk, mapOk, poolOk};
 ghost use Rattle.store.specs.Store.{unitOk};
 ghost use Rattle.reply.specs.Contract.{storeOf, callOf};
 ghost use Rattle.commands.specs.Served.{readyFor};
-use crate::Unit;
 use map::Checked;
+use rights::LAST_NEXUS;
+use store::Unit;
 
 pub fn capacity_ok(capacity: u64) -> bool
     ensures { λ r. ⌜ r ≡ capacityOk capacity ⌝ }
@@ -62,9 +63,12 @@ fn pool_ok(capacity: u64, owners: &[u64], medium: &[u8]) -> bool
 
 // Whether nothing refuses the call before its command is looked at. The whole state is checked, once, and last.
 pub fn ready(unit: Unit, owners: &[u64], medium: &[u8], nexus: u8, cdb: &[u8], sense: &[u8]) -> bool
-    ensures { λ r. ⌜ r ≡ readyFor (storeOf unit (now (owners .entry)) (now (medium .entry))) (callOf nexus (now (cdb .entry)) [] [] (now (sense .entry))) ⌝ }
+    ensures { λ r. ⌜ r
+        ≡ readyFor
+        (storeOf unit (now (owners .entry)) (now (medium .entry)))
+        (callOf nexus (now (cdb .entry)) [] [] (now (sense .entry))) ⌝ }
 {
-    if 15 < nexus {
+    if LAST_NEXUS < nexus {
         return false;
     }
     if cdb.len() == 0 {

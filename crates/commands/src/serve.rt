@@ -10,21 +10,19 @@ ghost use Rattle.decoder.specs.Sound.{Sound};
 ghost use Rattle.store.specs.Move.{access};
 ghost use Rattle.reply.specs.Contract.{storeOf, callOf};
 ghost use Rattle.reply.specs.Reply.{Bounded, served};
-ghost use Rattle.commands.specs.Served.{servedBy, servedWith, altersTo, bare, replying};
 ghost use Rattle.alter.specs.Altered.{altered};
-use crate::Outcome;
-use crate::Unit;
-use crate::alter;
-use crate::reply::Reply;
-use crate::tell;
-use crate::transfer;
-use crate::unmap;
+ghost use Rattle.commands.specs.Served.{servedBy, servedWith, altersTo, bare, replying};
 use answers::Answer;
-use forms::Form;
+use blocks::transfer;
+use blocks::unmap;
 use forms::Command;
+use forms::Form;
 use forms::Move;
-use reservations::Access;
-use reservations::Action;
+use reply::Outcome;
+use reply::Reply;
+use rights::Access;
+use rights::Action;
+use store::Unit;
 
 // An answer that returns no bytes.
 pub fn answered(answer: Answer, unit: Unit) -> Outcome
@@ -63,7 +61,8 @@ fn access_of(what: Move) -> Access
 // A command on the rights changes no block.
 fn alters(form: Form, action: Action, unit: Unit, nexus: u8, cdb: &[u8], data_out: &[u8]) -> Outcome
     requires { ⌜ Sound form ⌝ }
-    ensures { λ r. ⌜ r ≡ altersTo unit (altered form action (unit .rights) (callOf nexus (now (cdb .entry)) (now («data_out» .entry)) [] [])) ⌝ }
+    ensures { λ r. ⌜ r
+        ≡ altersTo unit (altered form action (unit .rights) (callOf nexus (now (cdb .entry)) (now («data_out» .entry)) [] [])) ⌝ }
 {
     let decision = alter::alter(form, action, unit.rights, nexus, cdb, data_out);
     let answer = decision.answer;
@@ -87,8 +86,13 @@ fn moves(
     data_out: &[u8],
     data_in: &mut [u8],
 ) -> Outcome
-    requires { ⌜ Sound form × Bounded (unit .capacity) (now owners) (now medium) × (first (formRows form (Moves what) (now cdb)) ≡ Good) ⌝ }
-    ensures { λ r. ⌜ served r (now (owners .exit)) (now (medium .exit)) (now («data_in» .exit)) ≡ servedBy form (Moves what) (storeOf unit (now (owners .entry)) (now (medium .entry))) (callOf nexus (now (cdb .entry)) (now («data_out» .entry)) (now («data_in» .entry)) []) ⌝ }
+    requires { ⌜ Sound form
+        × Bounded (unit .capacity) (now owners) (now medium)
+        × (first (formRows form (Moves what) (now cdb)) ≡ Good) ⌝ }
+    ensures { λ r. ⌜ served r (now (owners .exit)) (now (medium .exit)) (now («data_in» .exit))
+        ≡ servedBy form (Moves what)
+        (storeOf unit (now (owners .entry)) (now (medium .entry)))
+        (callOf nexus (now (cdb .entry)) (now («data_out» .entry)) (now («data_in» .entry)) []) ⌝ }
 {
     let rights = unit.rights;
     if reservations::conflict::conflicts(rights, nexus, access_of(what)) {
@@ -119,11 +123,16 @@ fn act(
     data_out: &[u8],
     data_in: &mut [u8],
 ) -> Outcome
-    requires { ⌜ Sound form × Bounded (unit .capacity) (now owners) (now medium) × (first (formRows form (form .command) (now cdb)) ≡ Good) ⌝ }
-    ensures { λ r. ⌜ served r (now (owners .exit)) (now (medium .exit)) (now («data_in» .exit)) ≡ servedBy form (form .command) (storeOf unit (now (owners .entry)) (now (medium .entry))) (callOf nexus (now (cdb .entry)) (now («data_out» .entry)) (now («data_in» .entry)) []) ⌝ }
+    requires { ⌜ Sound form
+        × Bounded (unit .capacity) (now owners) (now medium)
+        × (first (formRows form (form .command) (now cdb)) ≡ Good) ⌝ }
+    ensures { λ r. ⌜ served r (now (owners .exit)) (now (medium .exit)) (now («data_in» .exit))
+        ≡ servedBy form (form .command)
+        (storeOf unit (now (owners .entry)) (now (medium .entry)))
+        (callOf nexus (now (cdb .entry)) (now («data_out» .entry)) (now («data_in» .entry)) []) ⌝ }
 {
-    let kind = form.command;
-    match kind {
+    let command = form.command;
+    match command {
         Command::Tells(what) => replied(tell::tell(form, what, unit, cdb, data_in), unit),
         Command::Moves(what) => moves(
             form,
@@ -154,10 +163,13 @@ pub fn serve(
     data_in: &mut [u8],
 ) -> Outcome
     requires { ⌜ Bounded (unit .capacity) (now owners) (now medium) ⌝ }
-    ensures { λ r. ⌜ served r (now (owners .exit)) (now (medium .exit)) (now («data_in» .exit)) ≡ servedWith (formOf (now (cdb .entry))) (storeOf unit (now (owners .entry)) (now (medium .entry))) (callOf nexus (now (cdb .entry)) (now («data_out» .entry)) (now («data_in» .entry)) []) ⌝ }
+    ensures { λ r. ⌜ served r (now (owners .exit)) (now (medium .exit)) (now («data_in» .exit))
+        ≡ servedWith (formOf (now (cdb .entry)))
+        (storeOf unit (now (owners .entry)) (now (medium .entry)))
+        (callOf nexus (now (cdb .entry)) (now («data_out» .entry)) (now («data_in» .entry)) []) ⌝ }
 {
-    let form = forms::form_of(cdb);
-    let refusal = forms::refusal(form, cdb);
+    let form = decoder::form_of(cdb);
+    let refusal = decoder::refusal(form, cdb);
     let Answer::Good = refusal else {
         return answered(refusal, unit);
     };

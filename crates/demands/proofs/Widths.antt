@@ -21,7 +21,7 @@ use Rattle.forms.specs.declared.Command.the-variants.{Moves}
 use Rattle.forms.specs.declared.Form.{Form}
 use Rattle.forms.specs.Forms.{form, span, action, takes, lines, lookup, formFor, formOf, addressOf, sizeOf}
 use Rattle.forms.specs.Tests.{isUnlisted, transferRows, fieldRows, formRows}
-use Rattle.forms.proofs.Table.{sound-of}
+use Rattle.decoder.proofs.SoundLaws.{sound-of}
 use Rattle.store.specs.Store.{Store, Call, Seen, seenOf}
 use Rattle.store.specs.Move.{pastEnd, rangeRows, moveRows, moved, fetched}
 use Rattle.store.specs.Step.{callRows, ownRows, dataBy, storeBy, step}

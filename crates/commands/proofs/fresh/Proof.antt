@@ -1,4 +1,5 @@
--- `commands::fresh` meets its contract. Assumes nothing.
+-- `commands::fresh` meets its contract.
+-- Assumes nothing.
 use mathlib.Core.Path.{sym, _∙_}
 use borrow.Author.Tests.{not-true, not-false}
 use borrow.Author.Needs.{needs}
@@ -6,20 +7,23 @@ use Rattle.commands.proofs.FreshLaws.{fresh-capacity, fresh-slots, fres
 use Rattle.commands.proofs.fresh.Statement.{statement}
 use Rattle.commands.proofs.fresh.Tie as tie
 
-none-requires : tie.Need-none-requires
-none-requires c κs = tt
-
 capacity-ok-requires : tie.Need-capacity-ok-requires
 capacity-ok-requires c κs = tt
 
+refused-requires : tie.Need-refused-requires
+refused-requires c κs = tt
+
 returns : tie.Need-returns
-returns c = fresh-capacity _ _ _ (c .before .before .none .ensures) (sym (c .before .capacity-ok .ensures) ∙ not-true _ (c .if1 .taken))
+returns c = fresh-capacity _ _ _ (c .refused .ensures) (sym (c .before .before .capacity-ok .ensures) ∙ not-true _ (c .before .if1 .taken))
 
 slots-ok-requires : tie.Need-slots-ok-requires
 slots-ok-requires c κs = tt
 
+refused-requires-2 : tie.Need-refused-requires-2
+refused-requires-2 c κs = tt
+
 returns-2 : tie.Need-returns-2
-returns-2 c = fresh-slots _ _ _ (c .before .before .before .before .none .ensures) (sym (c .before .before .before .capacity-ok .ensures) ∙ not-false _ (c .before .before .if1 .left)) (sym (c .before .slots-ok .ensures) ∙ not-true _ (c .if2 .taken))
+returns-2 c = fresh-slots _ _ _ (c .refused2 .ensures) (sym (c .before .before .before .before .capacity-ok .ensures) ∙ not-false _ (c .before .before .before .if1 .left)) (sym (c .before .before .slots-ok .ensures) ∙ not-true _ (c .before .if2 .taken))
 
 free-all-requires : tie.Need-free-all-requires
 free-all-requires c κs = tt
@@ -27,18 +31,23 @@ free-all-requires c κs = tt
 same-length : tie.Need-same-length
 same-length c = search needs
 
+none-requires : tie.Need-none-requires
+none-requires c κs = tt
+
 returns-3 : tie.Need-returns-3
-returns-3 c = fresh-made _ _ _ (c .before .before .before .before .before .before .before .before .none .ensures) _ (sym (c .before .before .before .before .before .before .before .capacity-ok .ensures) ∙ not-false _ (c .before .before .before .before .before .before .if1 .left)) (sym (c .before .before .before .before .before .slots-ok .ensures) ∙ not-false _ (c .before .before .before .before .if2 .left)) (c .before .before .free-all .ensures)
+returns-3 c = fresh-made _ _ _ _ (c .none .ensures) (sym (c .before .before .before .before .before .before .before .before .capacity-ok .ensures) ∙ not-false _ (c .before .before .before .before .before .before .before .if1 .left)) (sym (c .before .before .before .before .before .before .slots-ok .ensures) ∙ not-false _ (c .before .before .before .before .before .if2 .left)) (c .before .before .before .free-all .ensures)
 
 pub fresh-spec : {M : Type 1} → statement M
 fresh-spec =
     tie.close
     (tie.spec
-    none-requires
     capacity-ok-requires
+    refused-requires
     returns
     slots-ok-requires
+    refused-requires-2
     returns-2
     free-all-requires
+    none-requires
     same-length
     returns-3)

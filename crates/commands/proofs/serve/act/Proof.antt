@@ -1,12 +1,12 @@
 -- `commands::serve::act` meets its contract. Assumes nothing.
 use borrow.Author.Needs.{needs}
-use Rattle.tell.proofs.TellLaws.{tells-served, alters-served, unknown-served, unlisted-served}
+use Rattle.commands.proofs.ServedLaws.{tells-served, alters-served, unknown-served, unlisted-served}
 use Rattle.commands.proofs.StepLaws.{rows-at, served-at}
 use Rattle.commands.proofs.serve.act.Statement.{statement}
 use Rattle.commands.proofs.serve.act.Tie as tie
 
-enum-known-kind : tie.Need-enum-known-kind
-enum-known-kind c = search needs
+enum-known-command : tie.Need-enum-known-command
+enum-known-command c = search needs
 
 tell-requires : tie.Need-tell-requires
 tell-requires c κs = search needs
@@ -14,14 +14,14 @@ tell-requires c κs = search needs
 replied-requires : tie.Need-replied-requires
 replied-requires c κs = tt
 
-enum-known-kind-2 : tie.Need-enum-known-kind-2
-enum-known-kind-2 c = search needs
+enum-known-command-2 : tie.Need-enum-known-command-2
+enum-known-command-2 c = search needs
 
 moves-requires : tie.Need-moves-requires
-moves-requires c κs = ((c .before .before .before .before .before .before .before .before .before .before .before .pre .0), (c .before .before .before .before .before .before .before .before .before .before .before .pre .1), rows-at _ _ _ _ (c .before .before .before .before .kind2 .given .1) (c .before .before .before .before .before .before .before .before .before .before .before .pre .2))
+moves-requires c κs = ((c .before .before .before .before .before .before .before .before .before .before .before .pre .0), (c .before .before .before .before .before .before .before .before .before .before .before .pre .1), rows-at _ _ _ _ (c .before .before .before .before .command2 .given .1) (c .before .before .before .before .before .before .before .before .before .before .before .pre .2))
 
-enum-known-kind-3 : tie.Need-enum-known-kind-3
-enum-known-kind-3 c = search needs
+enum-known-command-3 : tie.Need-enum-known-command-3
+enum-known-command-3 c = search needs
 
 alters-requires : tie.Need-alters-requires
 alters-requires c κs = search needs
@@ -42,7 +42,7 @@ same-length : tie.Need-same-length
 same-length c = search needs
 
 returns : tie.Need-returns
-returns c = rw (c .replied .ensures) (tells-served _ _ _ _ _ _ _ _ (c .before .before .before .before .before .before .kind .given .1) (c .before .before .before .tell .ensures))
+returns c = rw (c .replied .ensures) (tells-served _ _ _ _ _ _ _ _ (c .before .before .before .before .before .before .command .given .1) (c .before .before .before .tell .ensures))
 
 same-length-2 : tie.Need-same-length-2
 same-length-2 c = search needs
@@ -54,10 +54,10 @@ same-length-4 : tie.Need-same-length-4
 same-length-4 c = search needs
 
 returns-2 : tie.Need-returns-2
-returns-2 c = served-at _ _ _ _ _ _ (c .before .before .before .before .before .before .before .before .before .before .before .kind2 .given .1) (c .before .before .before .before .before .before .moves .ensures)
+returns-2 c = served-at _ _ _ _ _ _ (c .before .before .before .before .before .before .before .before .before .before .before .command2 .given .1) (c .before .before .before .before .before .before .moves .ensures)
 
 returns-3 : tie.Need-returns-3
-returns-3 c = alters-served _ _ _ _ _ _ _ _ (c .before .before .kind3 .given .1) (c .alters .ensures)
+returns-3 c = alters-served _ _ _ _ _ _ _ _ (c .before .before .command3 .given .1) (c .alters .ensures)
 
 returns-4 : tie.Need-returns-4
 returns-4 c = rw (c .answered .ensures) (unknown-served _ _ _ _ _ _ (c .before .enum-told .given .1))
@@ -69,12 +69,12 @@ pub act-spec : {M : Type 1} → statement M
 act-spec =
     tie.close
     (tie.spec
-    enum-known-kind
+    enum-known-command
     tell-requires
     replied-requires
-    enum-known-kind-2
+    enum-known-command-2
     moves-requires
-    enum-known-kind-3
+    enum-known-command-3
     alters-requires
     enum-told
     answered-requires

@@ -1,7 +1,7 @@
 -- `commands::serve::moves` meets its contract. Assumes nothing.
 use mathlib.Core.Path.{refl, sym, _∙_}
 use borrow.Author.Needs.{needs}
-use Rattle.blocks.proofs.BlockLaws.{read-count, write-count, moves-conflict, moves-read, moves-write, moves-unmap}
+use Rattle.commands.proofs.ServedLaws.{read-count, write-count, moves-conflict, moves-read, moves-write, moves-unmap}
 use Rattle.commands.proofs.serve.moves.Statement.{statement}
 use Rattle.commands.proofs.serve.moves.Tie as tie
 

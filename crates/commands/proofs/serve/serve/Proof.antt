@@ -1,7 +1,7 @@
 -- `commands::serve::serve` meets its contract. Assumes nothing.
 use mathlib.Core.Path.{sym, _∙_}
 use borrow.Author.Needs.{needs}
-use Rattle.forms.proofs.Table.{sound-of}
+use Rattle.decoder.proofs.SoundLaws.{sound-of}
 use Rattle.commands.proofs.StepLaws.{tag-refuses, form-refused, form-passed}
 use Rattle.commands.proofs.serve.serve.Statement.{statement}
 use Rattle.commands.proofs.serve.serve.Tie as tie

@@ -8,7 +8,6 @@ use Rattle.demands.specs.Cases.{cases, caseA, caseE, caseH}
 use Rattle.demands.specs.FurtherCases.{furtherCases}
 use Rattle.demands.specs.Useless.{blind, unmoved, constant, refusing, leaving}
 use Rattle.demands.proofs.Computing.{meaning}
-use Rattle.answers.specs.Order.{refusingBy}
 
 -- A to L, one statement over their list
 pub cases-pass : T (allPassed step cases)
@@ -21,7 +20,7 @@ further-cases-pass = tt
 
 -- "demand 2 shuts them out (A, E, H)"
 pub refusing-fails : T (not (passed refusing caseA) && not (passed refusing caseE) && not (passed refusing caseH))
-unfolding meaning refusingBy constant blind unmoved
+unfolding meaning refusing constant blind unmoved
 refusing-fails = tt
 
 pub leaving-fails : T (not (passed leaving caseA) && not (passed leaving caseE) && not (passed leaving caseH))

@@ -123,7 +123,7 @@ out-raises : (s : Store) (c : Call) → T (isOut c)
     → raisesAs (formOf (c .cdb) .command) (s .unit .rights) (c .nexus) (parametersOf (c .cdb) (c .dataOut)) ≡ raising s c
 unfolding isOut raising serviceKey parametersOf formOf
 out-raises s c h =
-    ap (λ (m : ℕ). raisesAs (formFor m (action (c .cdb)) .kind) (s .unit .rights) (c .nexus) (parametersOf (c .cdb) (c .dataOut))) (eqb→eq (byte 0 (c .cdb)) 0x5F h)
+    ap (λ (m : ℕ). raisesAs (formFor m (action (c .cdb)) .command) (s .unit .rights) (c .nexus) (parametersOf (c .cdb) (c .dataOut))) (eqb→eq (byte 0 (c .cdb)) 0x5F h)
     ∙ said (s .unit .rights) (c .nexus) (parametersOf (c .cdb) (c .dataOut)) (action (c .cdb)) _ _ _ _ _ _ refl refl refl refl refl refl
     ∙ in-front (eqb (byte 0 (c .cdb)) 0x5F) _ h
   where

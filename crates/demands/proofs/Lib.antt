@@ -3,6 +3,7 @@ pub mod Parts
 pub mod Usable
 pub mod Fresh
 pub mod Demand1
+pub mod Refusals
 pub mod Demand3
 pub mod CasesPass
 pub mod UselessFail

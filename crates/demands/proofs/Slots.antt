@@ -2,10 +2,10 @@
 -- slots answer every call alike, stay so, and therefore answer alike for ever. Which slot holds which block may differ, and all bytes of free slots.
 -- Assumes nothing.
 use mathlib.Core.Path.{_≡_, refl, sym, ap, ap₂, _∙_, subst}
-use mathlib.Core.Bool.{Bool, true, false}
+use mathlib.Core.Bool.{Bool, true, false, not}
 use mathlib.Core.List.{List, [], _∷_}
 use Prim.Native.Nat.{ℕ, _*_}
-use lib.Dec.{T, ltb}
+use lib.Dec.{T, leb}
 use lib.ListN.{length}
 use Rattle.answers.specs.declared.Answer.{Answer}
 use Rattle.answers.specs.declared.Answer.the-variants.{Conflict, Short}
@@ -13,6 +13,7 @@ use Rattle.answers.specs.Answers.{outOfRange, noRoom}
 use Rattle.answers.specs.Order.{Row, _if_, first, firstOf}
 use Rattle.answers.proofs.OrderLaws.{good-cases}
 use Rattle.map.specs.Pool.{Pool}
+use Rattle.map.specs.Write.{roomFor}
 use Rattle.map.specs.Valid.{capacityOk, slotsOk, poolOk}
 use Rattle.map.proofs.Keeping.{mapOk-distinct, poolOk-map, poolOk-unmapBlocks}
 use Rattle.map.proofs.Alike.{Alike, alike-self, alike-back, alike-through, alike-unmapped, alike-reads, alike-write, alike-unmap}
@@ -58,11 +59,11 @@ behind a false xs ys e = e
 
 range-same : (f : Form) (m : Move) (capacity : ℕ) (p q : Pool) (c : Call) → Alike p q
     → first (rangeRows f m capacity p c) ≡ first (rangeRows f m capacity q c)
-unfolding rangeRows
+unfolding rangeRows roomFor
 range-same f Read capacity p q c l = refl
 range-same f Write capacity p q c l =
     behind outOfRange _ _ _ (behind Short _ _ _
-    (ap₂ (λ (x y : ℕ). first (noRoom if ltb x y ∷ [])) (l .frees) (alike-unmapped p q l (addressOf f (c .cdb)) (sizeOf f (c .cdb)))))
+    (ap₂ (λ (x y : ℕ). first (noRoom if not (leb x y) ∷ [])) (alike-unmapped p q l (addressOf f (c .cdb)) (sizeOf f (c .cdb))) (l .frees)))
 range-same f Unmap capacity p q c l = refl
 
 module _ (f : Form) (s t : Store) (c : Call) (e : Same s t) where

@@ -4,7 +4,7 @@ use mathlib.Core.Path.{_≡_, refl, sym, ap, ap₂, _∙_}
 use mathlib.Core.List.{List}
 use Prim.Native.Nat.{ℕ, _+_, _*_, _≤_, _<_}
 use native.Mathlib.Omega.{arith}
-use borrow.Author.Tests.{ltb-false}
+use borrow.Author.Tests.{ltb-false, leb-true, not-false}
 use lib.Dec.{T}
 use lib.ListN.{length, take, drop}
 use Rattle.fields.specs.Bytes.{part, put, zeros}
@@ -15,6 +15,7 @@ use Rattle.answers.specs.Answers.{outOfRange, noRoom}
 use Rattle.answers.specs.Order.{first, ifGood, ifGoodBy, refuses}
 use Rattle.answers.proofs.OrderLaws.{row-fails, rows-after}
 use Rattle.map.specs.Pool.{Pool, free, unmapped, readBlock, readBlocks, writeBlocks}
+use Rattle.map.specs.Write.{roomFor}
 use Rattle.map.proofs.Keeping.{poolOk-whole}
 use Rattle.map.proofs.Reading.{fresh-read, read-fresh, write-in, write-out, reads-same, read-after-write, length-readBlocks}
 use Rattle.forms.specs.declared.Move.the-variants.{Read, Write}
@@ -90,10 +91,10 @@ module _ (s : Store) (w : Call) (a : Asks Write w) (e : IsGood s w) where
       ltb-false (length (w .dataOut)) (512 * countIn w) (row-fails Short _ _ tt (rows-after outOfRange _ _ tt (good-range Write s w a e)))
 
   pub write-room : unmapped (s .pool .owners) (addressIn w) (countIn w) ≤ free (s .pool .owners)
-  unfolding rangeRows refuses
+  unfolding rangeRows roomFor refuses
   write-room =
-      ltb-false (free (s .pool .owners)) (unmapped (s .pool .owners) (addressIn w) (countIn w))
-      (row-fails noRoom _ _ tt (rows-after Short _ _ tt (rows-after outOfRange _ _ tt (good-range Write s w a e))))
+      leb-true (unmapped (s .pool .owners) (addressIn w) (countIn w)) (free (s .pool .owners))
+      (not-false _ (row-fails noRoom _ _ tt (rows-after Short _ _ tt (rows-after outOfRange _ _ tt (good-range Write s w a e)))))
 
   -- each block of the range reads as its own 512 bytes
   pub write-contents : (i : ℕ) → i < countIn w → readBlock (after step s w .pool) (addressIn w + i) ≡ take 512 (drop (512 * i) (w .dataOut))

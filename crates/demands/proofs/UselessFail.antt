@@ -16,7 +16,6 @@ use Rattle.demands.specs.Demands.{Demand3}
 use Rattle.demands.specs.Useless.{blind, unmoved, constant, refusing, leaving}
 use Rattle.demands.specs.Checker.{Want, good, refused, same, sameStatus, senseShows, met, Case, Expect, _gives_, run, passed}
 use Rattle.demands.specs.Cases.{caseOf, caseH, writeH}
-use Rattle.answers.specs.Order.{refusingBy}
 
 -- ---- they meet demand 3
 
@@ -48,7 +47,7 @@ unfolding constant
 constant-meets a = blind-meets (unmoved a)
 
 pub refusing-meets : Demand3 refusing
-unfolding refusingBy
+unfolding refusing
 refusing-meets = constant-meets _
 
 pub leaving-meets : Demand3 leaving

@@ -2,10 +2,10 @@
 -- Assumes nothing.
 use mathlib.Core.Path.{_≡_, refl, sym, ap, _∙_, subst}
 use mathlib.Core.Logic.{_↔_}
-use mathlib.Core.Bool.{true, false, _&&_}
+use mathlib.Core.Bool.{true, false, not, _&&_}
 use mathlib.Core.List.{List}
 use Prim.Native.Nat.{ℕ, _+_, _*_, _≤_, _<_}
-use borrow.Author.Tests.{lt-ltb, le-ltb, ltb-false}
+use borrow.Author.Tests.{lt-ltb, le-ltb, ltb-false, lt-leb, le-leb, leb-true, not-false}
 use lib.Dec.{T, leb}
 use lib.ListN.{length}
 use Rattle.answers.specs.declared.Answer.{Answer}
@@ -14,6 +14,7 @@ use Rattle.answers.specs.Answers.{outOfRange, listLength, listField, noRoom}
 use Rattle.answers.specs.Order.{first, next, refuses}
 use Rattle.answers.proofs.OrderLaws.{row-pass, row-stop, row-end, row-fails, rows-after, next-good, next-first, next-second}
 use Rattle.map.specs.Pool.{free, unmapped}
+use Rattle.map.specs.Write.{roomFor}
 use Rattle.map.specs.Valid.{capacityOk, slotsOk}
 use Rattle.descriptors.specs.Descriptors.{considered, someFails}
 use Rattle.rights.specs.declared.Access.the-variants.{Reads}
@@ -100,20 +101,20 @@ module _ (s : Store) (c : Call) (r : Reaches Write s c) where
   -- "8": more unmapped blocks than free slots
   pub write-no-room : addressIn c + countIn c ≤ s .unit .capacity → 512 * countIn c ≤ length (c .dataOut)
       → free (s .pool .owners) < unmapped (s .pool .owners) (addressIn c) (countIn c) → step s c .seen .answer ≡ noRoom
-  unfolding rangeRows pastEnd
+  unfolding rangeRows pastEnd roomFor
   write-no-room h l n =
-      range-answers Write s c r ∙ row-pass outOfRange _ _ (le-ltb _ _ h) ∙ row-pass Short _ _ (le-ltb _ _ l) ∙ row-stop noRoom _ _ (lt-ltb _ _ n)
+      range-answers Write s c r ∙ row-pass outOfRange _ _ (le-ltb _ _ h) ∙ row-pass Short _ _ (le-ltb _ _ l) ∙ row-stop noRoom _ _ (ap not (lt-leb _ _ n))
 
   pub write-good : IsGood s c ↔ ((addressIn c + countIn c ≤ s .unit .capacity) × (512 * countIn c ≤ length (c .dataOut)) × Room s c)
-  unfolding rangeRows pastEnd refuses
+  unfolding rangeRows pastEnd roomFor refuses
   write-good = (
     λ e. let d = sym (range-answers Write s c r) ∙ e in (
       ltb-false _ _ (row-fails outOfRange _ _ tt d),
       ltb-false _ _ (row-fails Short _ _ tt (rows-after outOfRange _ _ tt d)),
-      ltb-false _ _ (row-fails noRoom _ _ tt (rows-after Short _ _ tt (rows-after outOfRange _ _ tt d))),
+      leb-true _ _ (not-false _ (row-fails noRoom _ _ tt (rows-after Short _ _ tt (rows-after outOfRange _ _ tt d)))),
     ),
     λ h. range-answers Write s c r ∙ row-pass outOfRange _ _ (le-ltb _ _ (h .0)) ∙ row-pass Short _ _ (le-ltb _ _ (h .1))
-        ∙ row-pass noRoom _ _ (le-ltb _ _ (h .2)) ∙ row-end,
+        ∙ row-pass noRoom _ _ (ap not (le-leb _ _ (h .2))) ∙ row-end,
   )
 
 -- ---- UNMAP: "10; list length 0 gives GOOD; length 1 to 7 gives 4; 12; more than 16 descriptors 5; 3 if any descriptor fails"

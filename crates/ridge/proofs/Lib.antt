@@ -2,4 +2,3 @@ pub mod WordLaws
 pub mod FarNexus
 pub mod InterfaceLaws
 pub mod WordsBack
-pub mod Refusals

@@ -7,9 +7,9 @@ ghost use lib.ListN.{length};
 ghost use Rattle.answers.specs.Order.{ifGood};
 ghost use Rattle.ridge.specs.Words.{word, placeIn, unitIn, fitByte, fit, nexusAt, keyAt, wordsOf};
 use answers::Answer;
-use commands::Unit;
-use reservations::Place;
-use reservations::Rights;
+use rights::Place;
+use rights::Rights;
+use store::Unit;
 
 // Whether the words from one on each fit a byte, up to word 12.
 fn bytes_fit(state: &[u64]) -> bool

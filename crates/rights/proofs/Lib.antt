@@ -1,3 +1,4 @@
 pub mod RightsLaws
+pub mod ConflictLaws
 pub mod Keeping
 pub mod Generation

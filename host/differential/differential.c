@@ -418,6 +418,26 @@ static void damage_store(struct run *run)
     }
 }
 
+/*
+ * At times what lies behind the state and the owners looks like more of them:
+ * the key that the call names, the block of another slot. A library that reads
+ * one word too far then answers otherwise.
+ */
+static void mimic_behind(struct run *run)
+{
+    const struct request *request = &run->request;
+    const size_t *bytes = run->lending.bytes;
+    uint64_t key = 0;
+
+    for (size_t index = 8; index < 16; index++)
+        key = key << 8 | request->data_out[index];
+    if (random_percent(&run->random, 50))
+        words_of(&run->before, STATE)[bytes[STATE] / 8] = key;
+    if (random_percent(&run->random, 50))
+        words_of(&run->before, OWNERS)[bytes[OWNERS] / 8] =
+            run->store.owners[random_below(&run->random, run->store.slots)];
+}
+
 /* Fills `before`; returns whether the store is lent as it is. */
 static bool prepare(struct run *run)
 {
@@ -440,6 +460,7 @@ static bool prepare(struct run *run)
     put_part(run, DATA_OUT, request->data_out, request->data_out_bytes);
     if (!whole && !sizes)
         damage_store(run);
+    mimic_behind(run);
     run->figures.damaged += whole ? 0 : 1;
     return whole;
 }

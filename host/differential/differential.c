@@ -311,8 +311,9 @@ static void damage_map(struct run *run, uint64_t *owners)
     size_t slots = run->store.slots;
     bool last = random_percent(&run->random, 50);
     size_t slot = last ? slots - 1 : (size_t)random_below(&run->random, slots);
-    size_t other =
-        last && slots > 1 ? slots - 2 : (size_t)random_below(&run->random, slots);
+    size_t other = last && slots > 1
+                       ? slots - 2
+                       : (size_t)random_below(&run->random, slots);
     uint64_t capacity = run->store.state[RIDGE_WORD_CAPACITY];
 
     if (other == slot || random_percent(&run->random, 45)) {

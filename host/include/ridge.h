@@ -56,8 +56,8 @@ extern "C" {
  * The interface number is that of the two functions, the state's words, the
  * bounds and the answer numbers below. It rises when a caller, or a state kept
  * by one, that was right under the old number may be wrong under the new one:
- * another parameter, another word or another meaning of one. A caller that keeps
- * states keeps this number with them.
+ * another parameter, another word or another meaning of one. Who keeps states
+ * keeps this number with them.
  *
  * Of the version, the first number rises with the interface, the second when
  * commands or answers are added that leave old callers right, the third when

@@ -80,7 +80,7 @@ static void make_calls(size_t calls, struct sheet *sheet)
     finish(&making, sheet);
 }
 
-/* One READ CAPACITY(10) with so much data-out that the sheet has this length. */
+/* One READ CAPACITY(10) with data-out that gives the sheet this length. */
 static void make_long(size_t bytes, struct sheet *sheet)
 {
     static struct making making;
@@ -93,59 +93,46 @@ static void make_long(size_t bytes, struct sheet *sheet)
     finish(&making, sheet);
 }
 
+/* So many calls, or one call in a sheet of so many bytes; then bytes are added
+   at the end or left out. */
+static const struct edge {
+    size_t calls;
+    size_t bytes;
+    int more;
+} edges[] = {
+    {0, 0, -1},                        /* empty */
+    {0, 0, 0},                         /* no call */
+    {0, 0, 1},                         /* no call, and a byte more */
+    {SHEET_CALLS, 0, 0},               /* the most calls */
+    {SHEET_CALLS + 1, 0, 0},           /* and one more */
+    {255, 0, 0},                       /* all that the byte can say */
+    {SHEET_CALLS, 0, -61},             /* contents that are cut */
+    {1, SHEET_BYTES, 0},               /* the longest */
+    {1, SHEET_BYTES, -1},              /* a byte short of what it says */
+    {1, SHEET_BYTES + 1, 0},           /* 64 KiB and a byte, as it says */
+    {1, SHEET_BYTES, 1},               /* 64 KiB as it says, and a byte */
+    {1, SHEET_BYTES, SHEET_BYTES},     /* far too long */
+};
+
 /* Makes the edge of that number; false if there is none. */
 static bool make_edge(unsigned long number, struct sheet *sheet)
 {
-    switch (number) {
-    case 0: /* empty */
-        sheet->bytes = 0;
-        return true;
-    case 1:
-        make_calls(0, sheet);
-        return true;
-    case 2: /* no call, and a byte more */
-        make_calls(0, sheet);
-        sheet->bytes++;
-        return true;
-    case 3:
-        make_calls(32, sheet);
-        return true;
-    case 4:
-        make_calls(33, sheet);
-        return true;
-    case 5:
-        make_calls(255, sheet);
-        return true;
-    case 6: /* contents that are cut */
-        make_calls(32, sheet);
-        sheet->bytes = 100;
-        return true;
-    case 7: /* the longest */
-        make_long(SHEET_BYTES, sheet);
-        return true;
-    case 8: /* a byte short of what it says */
-        make_long(SHEET_BYTES, sheet);
-        sheet->bytes--;
-        return true;
-    case 9: /* 64 KiB and a byte, as it says */
-        make_long(SHEET_BYTES + 1, sheet);
-        return true;
-    case 10: /* 64 KiB as it says, and a byte */
-        make_long(SHEET_BYTES, sheet);
-        sheet->bytes++;
-        return true;
-    case 11: /* far too long */
-        make_long(SHEET_BYTES, sheet);
-        sheet->bytes = 2 * SHEET_BYTES;
-        return true;
-    default:
+    struct edge edge;
+
+    if (number >= sizeof edges / sizeof *edges)
         return false;
-    }
+    edge = edges[number];
+    if (edge.bytes == 0)
+        make_calls(edge.calls, sheet);
+    else
+        make_long(edge.bytes, sheet);
+    sheet->bytes += (size_t)edge.more;
+    return true;
 }
 
 /* ---- The random ones ---- */
 
-/* The REGISTER of a nexus that is not registered yet, under a key of its own. */
+/* The REGISTER of a nexus not yet registered, under a key of its own. */
 static void make_registration(uint8_t nexus, struct request *request)
 {
     static const uint8_t cdb[10] = {0x5F, 0, 0, 0, 0, 0, 0, 0, 24, 0};

@@ -18,7 +18,8 @@
  * block or a mapping, and no other shut-out call changes anything stored.
  *
  * Exit status: 0 all held and enough was compared; 1 something did not hold,
- * which is printed; 2 too little compared (asked of long runs alone), bad usage.
+ * which is printed; 2 too little compared (asked of long runs alone), or bad
+ * usage.
  */
 
 #include <inttypes.h>

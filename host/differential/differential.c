@@ -3,7 +3,10 @@
  * ridge_) and the second program (prefix second_) and compares everything that
  * either may write, to the last byte.
  *
- *   differential CALLS SEED
+ *   differential [CALLS [SEED]]
+ *
+ * Without a SEED each run takes a new one; it is printed first, and the same
+ * seed gives the same calls on every machine.
  *
  * Both get equal copies of every lent buffer, with random guard bytes on both
  * sides. After each call: the answers and the returned counts are equal, so is
@@ -12,7 +15,8 @@
  * past the returned bytes, CDB, data-out and guards never).
  *
  * Exit status: 0 no difference and every answer met often enough; 1 a
- * difference, which is printed; 2 an answer or command too rare, bad usage.
+ * difference, which is printed; 2 an answer or command too rare (asked of long
+ * runs alone), bad usage.
  */
 
 #include <inttypes.h>
@@ -21,9 +25,12 @@
 #include <string.h>
 
 #include "../second/second.h"
+#include "console.h"
 #include "generate.h"
 
 enum {
+    CALLS_DEFAULT = 200000,
+    CALLS_LONG = 100000, /* from here on every answer must be met often */
     GUARD = 64,         /* bytes before and after each buffer */
     EXTRA_SLOTS = 2,    /* so that 129 slots can be lent */
     STATE_ROOM = 8 * (RIDGE_STATE_WORDS + 4),
@@ -63,6 +70,8 @@ struct figures {
     uint64_t calls;
     uint64_t fresh;
     uint64_t damaged;
+    uint64_t large_reads;  /* good, of 100 blocks and more */
+    uint64_t large_writes;
     uint64_t answers[16];
     uint64_t by_code[256];
     uint64_t good_by_code[256];
@@ -295,13 +304,19 @@ static void damage_sizes(struct run *run)
     }
 }
 
+/* An owner above the capacity, or two slots of one block; in half of the cases
+   at the last slots, which a check that ends early would not see. */
 static void damage_map(struct run *run, uint64_t *owners)
 {
-    size_t slot = (size_t)random_below(&run->random, run->store.slots);
-    size_t other = (size_t)random_below(&run->random, run->store.slots);
+    size_t slots = run->store.slots;
+    bool last = random_percent(&run->random, 50);
+    size_t slot = last ? slots - 1 : (size_t)random_below(&run->random, slots);
+    size_t other = last && slots > 1
+                       ? slots - 2
+                       : (size_t)random_below(&run->random, slots);
     uint64_t capacity = run->store.state[RIDGE_WORD_CAPACITY];
 
-    if (other == slot || random_percent(&run->random, 40)) {
+    if (other == slot || random_percent(&run->random, 45)) {
         owners[slot] = RANDOM_CHOICE(&run->random, capacity + 1, UINT64_MAX,
                                      (UINT64_C(1) << 32) + capacity);
         return;
@@ -369,12 +384,19 @@ static void damage_reservation(struct run *run, uint64_t *state)
     }
 }
 
-/* Spoils the lent store; some of these leave it valid, which is as well. */
+static bool is_large(const struct store *store)
+{
+    return store->slots >= LARGE_SLOTS;
+}
+
+/* Spoils the lent store; some of these leave it valid, which is as well. The
+   map of a large one has most to spoil. */
 static void damage_store(struct run *run)
 {
     uint64_t *state = words_of(&run->before, STATE);
+    bool map = is_large(&run->store) && random_percent(&run->random, 50);
 
-    switch (random_below(&run->random, 5)) {
+    switch (map ? 0 : random_below(&run->random, 5)) {
     case 0:
         damage_map(run, words_of(&run->before, OWNERS));
         break;
@@ -397,11 +419,31 @@ static void damage_store(struct run *run)
     }
 }
 
+/*
+ * At times what lies behind the state and the owners looks like more of them:
+ * the key that the call names, the block of another slot. A library that reads
+ * one word too far then answers otherwise.
+ */
+static void mimic_behind(struct run *run)
+{
+    const struct request *request = &run->request;
+    const size_t *bytes = run->lending.bytes;
+    uint64_t key = 0;
+
+    for (size_t index = 8; index < 16; index++)
+        key = key << 8 | request->data_out[index];
+    if (random_percent(&run->random, 50))
+        words_of(&run->before, STATE)[bytes[STATE] / 8] = key;
+    if (random_percent(&run->random, 50))
+        words_of(&run->before, OWNERS)[bytes[OWNERS] / 8] =
+            run->store.owners[random_below(&run->random, run->store.slots)];
+}
+
 /* Fills `before`; returns whether the store is lent as it is. */
 static bool prepare(struct run *run)
 {
     const struct request *request = &run->request;
-    bool whole = !random_percent(&run->random, 6);
+    bool whole = !random_percent(&run->random, is_large(&run->store) ? 15 : 6);
     bool sizes = !whole && random_percent(&run->random, 25);
 
     lend_request(run);
@@ -419,6 +461,7 @@ static bool prepare(struct run *run)
     put_part(run, DATA_OUT, request->data_out, request->data_out_bytes);
     if (!whole && !sizes)
         damage_store(run);
+    mimic_behind(run);
     run->figures.damaged += whole ? 0 : 1;
     return whole;
 }
@@ -444,6 +487,17 @@ static void execute(const struct lending *lending, struct world *world,
         &world->returned);
 }
 
+/* The bytes tell how many blocks moved, or what room was lent for them. */
+static void count_large(struct run *run, uint8_t code)
+{
+    const size_t least = (size_t)LARGE_SLOTS * RIDGE_BLOCK_BYTES;
+
+    if ((code == 0x28 || code == 0x88) && run->second.returned >= least)
+        run->figures.large_reads++;
+    if ((code == 0x2A || code == 0x8A) && run->lending.bytes[DATA_OUT] >= least)
+        run->figures.large_writes++;
+}
+
 static void count_call(struct run *run)
 {
     struct figures *figures = &run->figures;
@@ -455,6 +509,8 @@ static void count_call(struct run *run)
     figures->good_by_code[code] += good ? 1 : 0;
     if (code == 0x5F && good)
         figures->good_actions[run->request.cdb[1] & 0x1F]++;
+    if (good)
+        count_large(run, code);
 }
 
 static void one_call(struct run *run)
@@ -490,12 +546,13 @@ static void one_call(struct run *run)
 /* Bounds for fresh: good ones mostly, else one of them is not. */
 static uint64_t fresh_bounds(struct run *run)
 {
-    uint64_t capacity = generate_capacity(&run->random);
+    size_t slots = generate_slots(&run->random);
+    uint64_t capacity = generate_capacity(&run->random, slots);
     struct lending *lending = &run->lending;
 
     memset(lending, 0, sizeof *lending);
     lending->bytes[STATE] = 8 * RIDGE_STATE_WORDS;
-    lending->bytes[OWNERS] = 8 * generate_slots(&run->random);
+    lending->bytes[OWNERS] = 8 * slots;
     switch (random_below(&run->random, 8)) {
     case 0:
         return RANDOM_CHOICE(&run->random, 0, RIDGE_CAPACITY_LAST + 1,
@@ -613,8 +670,21 @@ static bool print_commands(const struct figures *figures, uint64_t floor)
     return enough;
 }
 
+static bool print_large(const struct figures *figures, uint64_t floor)
+{
+    bool enough =
+        often_enough("a large READ", figures->large_reads, floor);
+
+    printf("good transfers of %d blocks and more: %" PRIu64 " READ, %" PRIu64
+           " WRITE\n",
+           LARGE_SLOTS, figures->large_reads, figures->large_writes);
+    enough &= often_enough("a large WRITE", figures->large_writes, floor);
+    return enough;
+}
+
 static void run_calls(struct run *run, uint64_t calls)
 {
+    struct progress progress = console_progress("differential", "calls", calls);
     uint64_t left = 0;
 
     while (run->figures.calls < calls) {
@@ -625,26 +695,40 @@ static void run_calls(struct run *run, uint64_t calls)
         }
         one_call(run);
         left--;
+        console_tell(&progress, run->figures.calls);
     }
+}
+
+/* Rarity says nothing in a short run. */
+static bool print_figures(const struct figures *figures)
+{
+    uint64_t floor = figures->calls < CALLS_LONG ? 0 : figures->calls / 2000;
+    bool enough = print_answers(figures, floor);
+
+    enough &= print_commands(figures, floor);
+    enough &= print_large(figures, floor);
+    return enough;
 }
 
 int main(int count, char **words)
 {
     static struct run run;
-    uint64_t calls = count > 1 ? strtoull(words[1], NULL, 10) : 200000;
-    uint64_t floor;
+    uint64_t calls = CALLS_DEFAULT;
     bool enough;
 
-    run.seed = count > 2 ? strtoull(words[2], NULL, 10) : 20260101;
-    run.random.state = run.seed;
-    if (count > 3 || calls == 0) {
+    if (count > 3) {
         fprintf(stderr, "usage: differential [CALLS [SEED]]\n");
         return 2;
     }
+    if (count > 1)
+        calls = console_number("CALLS", words[1], 1);
+    run.seed = console_seed(count > 2 ? words[2] : NULL);
+    run.random.state = run.seed;
+    printf("differential: %" PRIu64 " calls, SEED=%" PRIu64 "\n", calls,
+           run.seed);
+    fflush(stdout);
     run_calls(&run, calls);
-    floor = calls / 1000 > 0 ? calls / 1000 : 1;
-    enough = print_answers(&run.figures, floor);
-    enough &= print_commands(&run.figures, floor);
+    enough = print_figures(&run.figures);
     printf("%" PRIu64 " calls, %" PRIu64 " fresh stores, %" PRIu64
            " calls on damaged stores, seed %" PRIu64 ": no difference\n",
            run.figures.calls, run.figures.fresh, run.figures.damaged,

@@ -59,12 +59,33 @@ static void put(uint8_t *bytes, size_t count, uint64_t value)
 
 /* ---- Stores ---- */
 
-uint64_t generate_capacity(struct random *random)
+size_t generate_slots(struct random *random)
+{
+    uint64_t kind = random_below(random, 100);
+
+    if (kind < 68)
+        return (size_t)(1 + random_below(random, 8));
+    if (kind < 86)
+        return (size_t)(9 + random_below(random, 24));
+    if (kind < 92)
+        return (size_t)(LARGE_SLOTS +
+                        random_below(random, RIDGE_SLOTS + 1 - LARGE_SLOTS));
+    return RIDGE_SLOTS;
+}
+
+static uint64_t small_capacity(struct random *random, size_t slots)
+{
+    if (slots >= LARGE_SLOTS && random_percent(random, 90))
+        return slots + random_below(random, 60);
+    return 1 + random_below(random, 40);
+}
+
+uint64_t generate_capacity(struct random *random, size_t slots)
 {
     uint64_t kind = random_below(random, 100);
 
     if (kind < 55)
-        return 1 + random_below(random, 40);
+        return small_capacity(random, slots);
     if (kind < 70)
         return 100 + random_below(random, 200);
     if (kind < 80)
@@ -72,17 +93,6 @@ uint64_t generate_capacity(struct random *random)
     if (kind < 90)
         return RIDGE_CAPACITY_LAST - random_below(random, 3);
     return 1 + random_below(random, RIDGE_CAPACITY_LAST);
-}
-
-size_t generate_slots(struct random *random)
-{
-    uint64_t kind = random_below(random, 100);
-
-    if (kind < 75)
-        return (size_t)(1 + random_below(random, 8));
-    if (kind < 94)
-        return (size_t)(9 + random_below(random, 24));
-    return (size_t)(RIDGE_SLOTS - random_below(random, 3));
 }
 
 /* Mostly near one of the ends, so that ranges and mappings meet. */
@@ -112,12 +122,11 @@ static bool is_owner(const struct store *store, uint64_t owner)
     return false;
 }
 
-void generate_map(struct random *random, struct store *store)
+/* Blocks anywhere, in slots of no order, none twice. */
+static void strew_blocks(struct random *random, struct store *store)
 {
     unsigned fill = (unsigned)random_below(random, 101);
 
-    memset(store->owners, 0, sizeof store->owners);
-    random_fill(random, store->medium, store->slots * RIDGE_BLOCK_BYTES);
     for (size_t slot = 0; slot < store->slots; slot++) {
         uint64_t owner =
             1 + address_within(random, store->state[RIDGE_WORD_CAPACITY]);
@@ -125,6 +134,39 @@ void generate_map(struct random *random, struct store *store)
         if (random_percent(random, fill) && !is_owner(store, owner))
             store->owners[slot] = owner;
     }
+}
+
+/*
+ * Neighbouring blocks in neighbouring slots, up to the last slot: only so is a
+ * transfer of 128 mapped blocks made. At times a few slots stay free, or the
+ * last ones, so that a large write has room.
+ */
+static void fill_in_order(struct random *random, struct store *store)
+{
+    uint64_t capacity = store->state[RIDGE_WORD_CAPACITY];
+    uint64_t most = capacity < store->slots ? capacity : store->slots;
+    uint64_t spare = capacity - most;
+    uint64_t first = random_percent(random, 50)
+                         ? spare
+                         : random_below(random, spare < 40 ? spare + 1 : 40);
+    unsigned holes = (unsigned)RANDOM_CHOICE(random, 0, 0, 0, 1, 5);
+
+    if (random_percent(random, 15))
+        most -= random_below(random, most < 30 ? most : 30);
+    for (size_t slot = 0; slot < most; slot++) {
+        if (!random_percent(random, holes))
+            store->owners[slot] = first + slot + 1;
+    }
+}
+
+void generate_map(struct random *random, struct store *store)
+{
+    memset(store->owners, 0, sizeof store->owners);
+    random_fill(random, store->medium, store->slots * RIDGE_BLOCK_BYTES);
+    if (store->slots >= LARGE_SLOTS && random_percent(random, 75))
+        fill_in_order(random, store);
+    else
+        strew_blocks(random, store);
 }
 
 /* Few different keys, so that some nexuses share one. */
@@ -193,7 +235,8 @@ void generate_reservation(struct random *random, uint64_t *state, uint64_t type)
 void generate_store(struct random *random, struct store *store)
 {
     store->slots = generate_slots(random);
-    store->state[RIDGE_WORD_CAPACITY] = generate_capacity(random);
+    store->state[RIDGE_WORD_CAPACITY] =
+        generate_capacity(random, store->slots);
     store->state[RIDGE_WORD_GENERATION] =
         RANDOM_CHOICE(random, 0, 7, UINT32_MAX - 1, UINT32_MAX, 0x01020304);
     generate_registrations(random, store->state);
@@ -287,6 +330,40 @@ static uint64_t generate_count(struct random *random, const struct store *store,
     }
 }
 
+/*
+ * A range of 100 to 128 blocks that begins at or just behind the block in slot
+ * 0, where the blocks of a large store in order begin. Counts that would reach
+ * past the end are mostly cut.
+ */
+static void large_range(struct random *random, const struct store *store,
+                        uint64_t *address, uint64_t *count)
+{
+    uint64_t capacity = store->state[RIDGE_WORD_CAPACITY];
+    uint64_t first = store->owners[0];
+
+    *address = first == 0 ? address_within(random, capacity) : first - 1;
+    if (random_percent(random, 25))
+        *address += random_below(random, 4);
+    *count = random_percent(random, 50)
+                 ? RIDGE_TRANSFER_BLOCKS
+                 : LARGE_SLOTS + random_below(random, 29);
+    if (*address < capacity && *count > capacity - *address &&
+        random_percent(random, 80))
+        *count = capacity - *address;
+}
+
+/* The range of a READ or WRITE. */
+static void generate_range(struct random *random, const struct store *store,
+                           uint64_t *address, uint64_t *count)
+{
+    if (store->slots >= LARGE_SLOTS && random_percent(random, 45)) {
+        large_range(random, store, address, count);
+        return;
+    }
+    *address = generate_address(random, store);
+    *count = generate_count(random, store, *address);
+}
+
 /* ---- The commands ---- */
 
 static void start_cdb(struct random *random, struct request *request,
@@ -359,9 +436,10 @@ static uint64_t make_transfer(struct random *random, const struct store *store,
                               struct request *request, uint8_t code)
 {
     bool sixteen = code >= 0x80;
-    uint64_t address = generate_address(random, store);
-    uint64_t count = generate_count(random, store, address);
+    uint64_t address;
+    uint64_t count;
 
+    generate_range(random, store, &address, &count);
     start_cdb(random, request, code, sixteen ? 16 : 10);
     if (!random_percent(random, 4))
         request->cdb[1] &= 0x1F;
@@ -395,10 +473,14 @@ static void make_write(struct random *random, const struct store *store,
     random_fill(random, request->data_out, request->data_out_bytes);
 }
 
-/* The address of a mapped block at times, so that UNMAP frees something. */
+/* The address of a mapped block at times, so that UNMAP frees something, and
+   often enough that in the last slot. */
 static uint64_t unmap_address(struct random *random, const struct store *store)
 {
-    uint64_t owner = store->owners[random_below(random, store->slots)];
+    uint64_t before_last = random_percent(random, 15)
+                               ? 0
+                               : random_below(random, store->slots);
+    uint64_t owner = store->owners[store->slots - 1 - before_last];
 
     if (owner != 0 && random_percent(random, 60))
         return owner - 1;

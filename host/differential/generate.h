@@ -20,7 +20,10 @@ enum {
     CDB_ROOM = 64,
     /* Room for 129 blocks, one more than a command may move, and some. */
     DATA_ROOM = 130 * RIDGE_BLOCK_BYTES,
-    SENSE_ROOM = 256
+    SENSE_ROOM = 256,
+    /* A store of so many slots is a large one: transfers of 100 to 128 blocks
+       and damage at its last slots are what it is for. */
+    LARGE_SLOTS = 100
 };
 
 struct random {
@@ -64,13 +67,15 @@ uint64_t random_choice(struct random *random, const uint64_t *words,
     random_choice(random, (const uint64_t[]){__VA_ARGS__},           \
                   sizeof((const uint64_t[]){__VA_ARGS__}) / sizeof(uint64_t))
 
-/* A capacity within bounds, small or at an edge of the field widths. */
-uint64_t generate_capacity(struct random *random);
-
-/* A number of slots within bounds, mostly few. */
+/* A number of slots within bounds: mostly few, else LARGE_SLOTS and more. */
 size_t generate_slots(struct random *random);
 
-/* Gives the store a random valid map and random medium bytes. */
+/* A capacity within bounds for so many slots: small or at an edge of the field
+   widths, and seldom below what a large pool holds. */
+uint64_t generate_capacity(struct random *random, size_t slots);
+
+/* Gives the store a random valid map and random medium bytes: blocks strewn
+   over the slots, or most slots of a large store filled in order. */
 void generate_map(struct random *random, struct store *store);
 
 /* Gives the state random registrations, and no reservation. */

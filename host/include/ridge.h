@@ -1,5 +1,5 @@
 /*
- * ridge.h - the C interface of the proved library libridge.a
+ * ridge.h - the C interface of the proved library libridge.a, version 1.0.0
  *
  * One thinly provisioned direct access logical unit: blocks of 512 bytes,
  * unmapped blocks read as zeros. The caller lends all memory; the library
@@ -51,6 +51,24 @@
 #ifdef __cplusplus
 extern "C" {
 #endif
+
+/*
+ * The interface number is that of the two functions, the state's words, the
+ * bounds and the answer numbers below. It rises when a caller, or a state kept
+ * by one, that was right under the old number may be wrong under the new one:
+ * another parameter, another word or another meaning of one. Who keeps states
+ * keeps this number with them.
+ *
+ * Of the version, the first number rises with the interface, the second when
+ * commands or answers are added that leave old callers right, the third when
+ * neither changes. CHANGELOG.md says what each version brought. The revision
+ * 0100 that INQUIRY returns is the product's, and none of these.
+ */
+#define RIDGE_INTERFACE 1
+#define RIDGE_VERSION_MAJOR 1
+#define RIDGE_VERSION_MINOR 0
+#define RIDGE_VERSION_PATCH 0
+#define RIDGE_VERSION "1.0.0"
 
 enum ridge_bound {
     RIDGE_BLOCK_BYTES = 512,    /* bytes of one block, and of one slot */

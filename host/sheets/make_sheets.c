@@ -1,6 +1,7 @@
 /*
  * make_sheets.c - writes call sheets to a folder, each beside what the second
- * program prints for it: make_sheets FOLDER COUNT SEED.
+ * program prints for it: make_sheets FOLDER COUNT [SEED]. Without a SEED each
+ * run takes a new one; it is printed, and gives the same sheets again.
  *
  * The first are the edges of what a good sheet is. The others are random
  * histories of sensible and damaged calls; one in four is damaged as a sheet.
@@ -13,6 +14,7 @@
 #include <stdlib.h>
 #include <string.h>
 
+#include "../differential/console.h"
 #include "../differential/generate.h"
 #include "../second/second.h"
 #include "second_bench.h"
@@ -33,6 +35,14 @@ struct making {
 
 static uint64_t answers[16];
 
+/* Of no bytes nothing is copied, since their pointer may be null. */
+static void add_bytes(struct making *making, const uint8_t *bytes, size_t count)
+{
+    if (count > 0)
+        memcpy(making->bodies + making->bytes, bytes, count);
+    making->bytes += count;
+}
+
 static void add_call(struct making *making, uint8_t nexus, const uint8_t *cdb,
                      size_t cdb_bytes, const uint8_t *data_out,
                      size_t data_out_bytes)
@@ -43,10 +53,8 @@ static void add_call(struct making *making, uint8_t nexus, const uint8_t *cdb,
     contents[1] = (uint8_t)cdb_bytes;
     contents[2] = (uint8_t)(data_out_bytes >> 8);
     contents[3] = (uint8_t)data_out_bytes;
-    memcpy(making->bodies + making->bytes, cdb, cdb_bytes);
-    making->bytes += cdb_bytes;
-    memcpy(making->bodies + making->bytes, data_out, data_out_bytes);
-    making->bytes += data_out_bytes;
+    add_bytes(making, cdb, cdb_bytes);
+    add_bytes(making, data_out, data_out_bytes);
 }
 
 static void finish(const struct making *making, struct sheet *sheet)
@@ -72,7 +80,7 @@ static void make_calls(size_t calls, struct sheet *sheet)
     finish(&making, sheet);
 }
 
-/* One READ CAPACITY(10) with so much data-out that the sheet has this length. */
+/* One READ CAPACITY(10) with data-out that gives the sheet this length. */
 static void make_long(size_t bytes, struct sheet *sheet)
 {
     static struct making making;
@@ -85,63 +93,51 @@ static void make_long(size_t bytes, struct sheet *sheet)
     finish(&making, sheet);
 }
 
+/* So many calls, or one call in a sheet of so many bytes; then bytes are added
+   at the end or left out. */
+static const struct edge {
+    size_t calls;
+    size_t bytes;
+    int more;
+} edges[] = {
+    {0, 0, -1},                        /* empty */
+    {0, 0, 0},                         /* no call */
+    {0, 0, 1},                         /* no call, and a byte more */
+    {SHEET_CALLS, 0, 0},               /* the most calls */
+    {SHEET_CALLS + 1, 0, 0},           /* and one more */
+    {255, 0, 0},                       /* all that the byte can say */
+    {SHEET_CALLS, 0, -61},             /* contents that are cut */
+    {1, SHEET_BYTES, 0},               /* the longest */
+    {1, SHEET_BYTES, -1},              /* a byte short of what it says */
+    {1, SHEET_BYTES + 1, 0},           /* 64 KiB and a byte, as it says */
+    {1, SHEET_BYTES, 1},               /* 64 KiB as it says, and a byte */
+    {1, SHEET_BYTES, SHEET_BYTES},     /* far too long */
+};
+
 /* Makes the edge of that number; false if there is none. */
 static bool make_edge(unsigned long number, struct sheet *sheet)
 {
-    switch (number) {
-    case 0: /* empty */
-        sheet->bytes = 0;
-        return true;
-    case 1:
-        make_calls(0, sheet);
-        return true;
-    case 2: /* no call, and a byte more */
-        make_calls(0, sheet);
-        sheet->bytes++;
-        return true;
-    case 3:
-        make_calls(32, sheet);
-        return true;
-    case 4:
-        make_calls(33, sheet);
-        return true;
-    case 5:
-        make_calls(255, sheet);
-        return true;
-    case 6: /* contents that are cut */
-        make_calls(32, sheet);
-        sheet->bytes = 100;
-        return true;
-    case 7: /* the longest */
-        make_long(SHEET_BYTES, sheet);
-        return true;
-    case 8: /* a byte short of what it says */
-        make_long(SHEET_BYTES, sheet);
-        sheet->bytes--;
-        return true;
-    case 9: /* 64 KiB and a byte, as it says */
-        make_long(SHEET_BYTES + 1, sheet);
-        return true;
-    case 10: /* 64 KiB as it says, and a byte */
-        make_long(SHEET_BYTES, sheet);
-        sheet->bytes++;
-        return true;
-    case 11: /* far too long */
-        make_long(SHEET_BYTES, sheet);
-        sheet->bytes = 2 * SHEET_BYTES;
-        return true;
-    default:
+    struct edge edge;
+
+    if (number >= sizeof edges / sizeof *edges)
         return false;
-    }
+    edge = edges[number];
+    if (edge.bytes == 0)
+        make_calls(edge.calls, sheet);
+    else
+        make_long(edge.bytes, sheet);
+    sheet->bytes += (size_t)edge.more;
+    return true;
 }
 
 /* ---- The random ones ---- */
 
-/* The REGISTER of a nexus that is not registered yet, under a key of its own. */
+/* The REGISTER of a nexus not yet registered, under a key of its own. */
 static void make_registration(uint8_t nexus, struct request *request)
 {
     static const uint8_t cdb[10] = {0x5F, 0, 0, 0, 0, 0, 0, 0, 24, 0};
 
+    request->nexus = nexus;
     memcpy(request->cdb, cdb, sizeof cdb);
     request->cdb_bytes = sizeof cdb;
     memset(request->data_out, 0, 24);
@@ -149,9 +145,36 @@ static void make_registration(uint8_t nexus, struct request *request)
     request->data_out_bytes = 24;
 }
 
+/* The next call of a history; its nexus fits the sheet's byte. */
+static void make_call(struct random *random, const struct store *store,
+                      struct request *request)
+{
+    if (random_percent(random, 10))
+        generate_rare(random, store, request);
+    else
+        generate_request(random, store, generate_nexus(random, store->state),
+                         request);
+    request->nexus = (uint8_t)request->nexus;
+}
+
+/* The second program tells how the store goes on. */
+static void execute(struct store *store, const struct request *request)
+{
+    uint8_t data_in[BENCH_DATA_IN];
+    uint8_t sense[RIDGE_SENSE_BYTES];
+    uint64_t returned;
+
+    answers[second_execute(
+        store->state, RIDGE_STATE_WORDS, store->owners, store->slots,
+        store->medium, store->slots * RIDGE_BLOCK_BYTES, request->nexus,
+        request->cdb, request->cdb_bytes, request->data_out,
+        request->data_out_bytes, data_in, sizeof data_in, sense, sizeof sense,
+        &returned)]++;
+}
+
 /*
- * A history on a fresh store; the second program tells how the store goes on.
- * In one of eight all places are used first, so that there is no room for more.
+ * A history on a fresh store. In one of eight all places are used first, so
+ * that there is no room for more.
  */
 static void make_history(struct random *random, struct sheet *sheet)
 {
@@ -168,30 +191,16 @@ static void make_history(struct random *random, struct sheet *sheet)
     second_fresh(BENCH_CAPACITY, store.state, RIDGE_STATE_WORDS, store.owners,
                  store.slots);
     for (size_t index = 0; index < calls; index++) {
-        uint8_t nexus = (uint8_t)generate_nexus(random, store.state);
-        uint8_t data_in[BENCH_DATA_IN];
-        uint8_t sense[18];
-        uint64_t returned;
-
-        if (crowded && index < RIDGE_PLACES) {
-            nexus = (uint8_t)index;
-            make_registration(nexus, &request);
-        } else if (random_percent(random, 10)) {
-            generate_rare(random, &store, &request);
-            nexus = (uint8_t)request.nexus;
-        } else {
-            generate_request(random, &store, nexus, &request);
-        }
+        if (crowded && index < RIDGE_PLACES)
+            make_registration((uint8_t)index, &request);
+        else
+            make_call(random, &store, &request);
         if (1 + 4 * calls + making.bytes + request.cdb_bytes +
                 request.data_out_bytes > SHEET_BYTES)
             break;
-        add_call(&making, nexus, request.cdb, request.cdb_bytes,
-                 request.data_out, request.data_out_bytes);
-        answers[second_execute(
-            store.state, RIDGE_STATE_WORDS, store.owners, store.slots,
-            store.medium, store.slots * RIDGE_BLOCK_BYTES, nexus, request.cdb,
-            request.cdb_bytes, request.data_out, request.data_out_bytes,
-            data_in, sizeof data_in, sense, sizeof sense, &returned)]++;
+        add_call(&making, (uint8_t)request.nexus, request.cdb,
+                 request.cdb_bytes, request.data_out, request.data_out_bytes);
+        execute(&store, &request);
     }
     finish(&making, sheet);
 }
@@ -246,26 +255,33 @@ static void write_sheet(const char *folder, unsigned long number,
     fclose(file);
 }
 
+static void make_sheet(struct random *random, unsigned long number,
+                       struct sheet *sheet)
+{
+    if (make_edge(number, sheet))
+        return;
+    make_history(random, sheet);
+    if (random_percent(random, 25))
+        damage(random, sheet);
+}
+
 int main(int argc, char **argv)
 {
     static struct sheet sheet;
 
-    if (argc != 4) {
-        fprintf(stderr, "usage: make_sheets FOLDER COUNT SEED\n");
+    if (argc < 3 || argc > 4) {
+        fprintf(stderr, "usage: make_sheets FOLDER COUNT [SEED]\n");
         return 2;
     }
-    unsigned long count = strtoul(argv[2], NULL, 10);
-    struct random random = {strtoull(argv[3], NULL, 10)};
+    unsigned long count = (unsigned long)console_number("SHEETS", argv[2], 1);
+    struct random random = {console_seed(argc > 3 ? argv[3] : NULL)};
+    printf("sheets: %lu made, SEED=%" PRIu64 "\n", count, random.state);
     for (unsigned long number = 0; number < count; number++) {
-        if (!make_edge(number, &sheet)) {
-            make_history(&random, &sheet);
-            if (random_percent(&random, 25))
-                damage(&random, &sheet);
-        }
+        make_sheet(&random, number, &sheet);
         write_sheet(argv[1], number, &sheet);
     }
     printf("answers in the histories:");
-    for (unsigned number = 0; number <= 12; number++)
+    for (unsigned number = 0; number <= RIDGE_BUFFER_SHORT; number++)
         printf(" %u:%" PRIu64, number, answers[number]);
     printf("\n");
     return 0;

@@ -2,7 +2,10 @@
  * two_runs.c - runs pairs of histories on the proved library to see that a
  * nexus that is shut out from reading learns nothing of blocks and maps.
  *
- *   two_runs STEPS SEED
+ *   two_runs [STEPS [SEED]]
+ *
+ * Without a SEED each run takes a new one; it is printed first, and the same
+ * seed gives the same calls on every machine.
  *
  * The two stores of a pair have equal capacity, registrations, reservation and
  * generation; slots, maps and blocks differ. Both get the same reservation-out
@@ -15,7 +18,8 @@
  * block or a mapping, and no other shut-out call changes anything stored.
  *
  * Exit status: 0 all held and enough was compared; 1 something did not hold,
- * which is printed; 2 too little compared, bad usage.
+ * which is printed; 2 too little compared (asked of long runs alone), or bad
+ * usage.
  */
 
 #include <inttypes.h>
@@ -23,9 +27,15 @@
 #include <stdlib.h>
 #include <string.h>
 
+#include "../differential/console.h"
 #include "../differential/generate.h"
 
-enum { RESERVE_OUT_CODE = 0x5F, STEPS_OF_PAIR = 60 };
+enum {
+    STEPS_DEFAULT = 100000,
+    STEPS_LONG = 20000, /* from here on enough must be compared */
+    STEPS_OF_PAIR = 60,
+    RESERVE_OUT_CODE = 0x5F
+};
 
 /* One of the two stores, with what it was lent and what it answered. */
 struct side {
@@ -270,7 +280,7 @@ static bool print_count(const char *name, uint64_t count, uint64_t floor)
 static bool print_figures(const struct figures *figures)
 {
     const uint64_t *codes = figures->shut_out_codes;
-    uint64_t steps = figures->steps;
+    uint64_t steps = figures->steps < STEPS_LONG ? 0 : figures->steps;
     bool enough = true;
 
     enough &= print_count("pairs", figures->pairs, steps / STEPS_OF_PAIR);
@@ -296,23 +306,35 @@ static bool print_figures(const struct figures *figures)
     return enough;
 }
 
+static void run_steps(struct run *run, uint64_t steps)
+{
+    struct progress progress = console_progress("two_runs", "steps", steps);
+
+    while (run->figures.steps < steps) {
+        if (run->figures.steps % STEPS_OF_PAIR == 0)
+            make_pair(run);
+        step(run);
+        console_tell(&progress, run->figures.steps);
+    }
+}
+
 int main(int count, char **words)
 {
     static struct run run;
-    uint64_t steps = count > 1 ? strtoull(words[1], NULL, 10) : 100000;
+    uint64_t steps = STEPS_DEFAULT;
     bool enough;
 
-    run.seed = count > 2 ? strtoull(words[2], NULL, 10) : 20260102;
-    run.random.state = run.seed;
-    if (count > 3 || steps == 0) {
+    if (count > 3) {
         fprintf(stderr, "usage: two_runs [STEPS [SEED]]\n");
         return 2;
     }
-    while (run.figures.steps < steps) {
-        if (run.figures.steps % STEPS_OF_PAIR == 0)
-            make_pair(&run);
-        step(&run);
-    }
+    if (count > 1)
+        steps = console_number("CALLS", words[1], 1);
+    run.seed = console_seed(count > 2 ? words[2] : NULL);
+    run.random.state = run.seed;
+    printf("two_runs: %" PRIu64 " steps, SEED=%" PRIu64 "\n", steps, run.seed);
+    fflush(stdout);
+    run_steps(&run, steps);
     enough = print_figures(&run.figures);
     printf("%" PRIu64 " steps, seed %" PRIu64 ": no difference\n",
            run.figures.steps, run.seed);

@@ -61,8 +61,8 @@ preempting-generation : (r : Rights) (n kind k : ℕ) → preempting r n kind k 
 unfolding preempting withPlaces held
 preempting-generation r n kind k =
     either (eqb (holderKey r) k) _ _ (nextGeneration (r .generation))
-    (raised-after (held (withPlaces r (map (without (sender n) k) (r .places))) kind n) (r .generation) refl)
-    (raised-after (settled (withPlaces r (map (without nobody k) (r .places)))) (r .generation) (settled-generation (withPlaces r (map (without nobody k) (r .places)))))
+    (raised-after _ (r .generation) refl)
+    (raised-after (settled _) (r .generation) (settled-generation _))
 
 -- the generation after an action that nothing refuses
 pub acted-generation : (a : Action) (r : Rights) (n : ℕ) (o : Parameters)

@@ -231,22 +231,30 @@ ended-ok : (r : Rights) → T (placesOk (r .places)) → T (rightsOk (ended r))
 unfolding ended stands
 ended-ok r t = rights-of (ended r) t tt
 
+-- where nobody is gone, the holder is registered, or somebody is
+module _ (r : Rights) (s : T (not (gone r))) where
+  holder-there : T (oneHolds (r .kind)) → T (registered (r .holder) (r .places))
+  unfolding gone
+  holder-there a =
+      not-not (registered (r .holder) (r .places)) (nand-rest (oneHolds (r .kind)) (not (registered (r .holder) (r .places))) a
+      (nor-l (oneHolds (r .kind) && not (registered (r .holder) (r .places))) (allHold (r .kind) && not (somebody (r .places))) s))
+
+  somebody-there : T (allHold (r .kind)) → T (somebody (r .places))
+  unfolding gone
+  somebody-there a =
+      not-not (somebody (r .places))
+      (nand-rest (allHold (r .kind)) (not (somebody (r .places))) a
+      (nor-r (oneHolds (r .kind) && not (registered (r .holder) (r .places))) (allHold (r .kind) && not (somebody (r .places))) s))
+
 -- with other places, and its reservation ended if they leave it no holder
 settled-ok : (r : Rights) (qs : List Place) → T (rightsOk r) → T (placesOk qs) → T (rightsOk (settled (withPlaces r qs)))
-unfolding settled gone withPlaces
+unfolding settled withPlaces
 settled-ok r qs t u =
-    by-test ((oneHolds (r .kind) && not (registered (r .holder) qs)) || (allHold (r .kind) && not (somebody qs)))
-    (λ b. T (rightsOk (cond b (ended (withPlaces r qs)) (withPlaces r qs))))
+    by-test (gone (withPlaces r qs)) (λ b. T (rightsOk (cond b (ended (withPlaces r qs)) (withPlaces r qs))))
     (λ s. ended-ok (withPlaces r qs) u)
     (λ s. rights-of (withPlaces r qs) u
     (stands-map (r .places) qs (r .kind) (r .holder)
-    (λ a b. not-not (registered (r .holder) qs)
-    (nand-rest (oneHolds (r .kind)) (not (registered (r .holder) qs)) a
-    (nor-l (oneHolds (r .kind) && not (registered (r .holder) qs)) (allHold (r .kind) && not (somebody qs)) s)))
-    (λ a b. not-not (somebody qs)
-    (nand-rest (allHold (r .kind)) (not (somebody qs)) a
-    (nor-r (oneHolds (r .kind) && not (registered (r .holder) qs)) (allHold (r .kind) && not (somebody qs)) s)))
-    (rights-stand r t)))
+    (λ a b. holder-there (withPlaces r qs) s a) (λ a b. somebody-there (withPlaces r qs) s a) (rights-stand r t)))
 
 registered-somebody : (n : ℕ) (ps : List Place) → T (registered n ps) → T (somebody ps)
 unfolding registered somebody

@@ -31,11 +31,18 @@ enum {
 
 enum sends { NOTHING, BLOCKS, DESCRIPTORS, KEYS };
 
-/* One row of the table. Slot i holds block 37 i mod 128, so that blocks in
-   rising order lie in scattered slots. Place i is nexus i with key 10h + i. */
+/* Which block slot i holds. SCATTERED: 37 i mod 128, so that blocks in rising
+   order lie in scattered slots. EVERY: i x 2^step. RANDOM: any below 2^40.
+   CHOSEN: of those whose owner numbers share a bucket of the check, the ith.
+   TWICE: as SCATTERED, but the last slot holds the block of the one before. */
+enum layout { SCATTERED, EVERY, RANDOM, CHOSEN, TWICE };
+
+/* One row of the table. Place i is nexus i with key 10h + i. */
 struct operation {
     const char *title;
     size_t slots, full, places, moved;
+    enum layout layout;
+    unsigned step;
     uint64_t type, holder, nexus, answer, key, action_key;
     enum sends sends;
     size_t cdb_bytes;
@@ -43,6 +50,7 @@ struct operation {
 };
 
 #define FULL .slots = 128, .full = 128
+#define FAR(where, every) FULL, .layout = where, .step = every, .cdb_bytes = 6
 #define HELD FULL, .places = 8, .type = 1, .holder = 7, .cdb_bytes = 10
 #define OUT HELD, .sends = KEYS, .moved = LIST_BYTES
 
@@ -52,6 +60,14 @@ static const struct operation operations[] = {
     {"TEST UNIT READY, 64 full slots", .slots = 64, .full = 64, .cdb_bytes = 6},
     {"TEST UNIT READY, 128 full slots", FULL, .cdb_bytes = 6},
     {"TEST UNIT READY, 128 free slots", .slots = 128, .cdb_bytes = 6},
+    {"TEST UNIT READY, 128 random blocks", FAR(RANDOM, 0)},
+    {"TEST UNIT READY, 128 blocks, one every 2^8", FAR(EVERY, 8)},
+    {"TEST UNIT READY, 128 blocks, one every 2^16", FAR(EVERY, 16)},
+    {"TEST UNIT READY, 128 blocks, one every 2^24", FAR(EVERY, 24)},
+    {"TEST UNIT READY, 128 blocks, one every 2^30", FAR(EVERY, 30)},
+    {"TEST UNIT READY, 128 blocks of one bucket", FAR(CHOSEN, 0)},
+    {"TEST UNIT READY, 128 full slots, the last two alike (11)",
+     FAR(TWICE, 0), .answer = RIDGE_UNUSABLE},
     {"INQUIRY", FULL, .moved = 36, .cdb_bytes = 6, .cdb = {0x12, 0, 0, 0, 36}},
     {"READ CAPACITY(10)", FULL, .moved = 8, .cdb_bytes = 10, .cdb = {0x25}},
     {"READ CAPACITY(16)", FULL, .moved = 32, .cdb_bytes = 16,
@@ -122,17 +138,49 @@ static void store(uint8_t *at, size_t bytes, uint64_t number)
         at[place] = (uint8_t)(number >> (8 * (bytes - 1 - place)));
 }
 
+/* A well known sequence of 64-bit numbers that look random (xorshift). */
+static uint64_t next_random(uint64_t number)
+{
+    number ^= number << 13;
+    number ^= number >> 7;
+    return number ^ number << 17;
+}
+
+/* As crate audit has it. */
+static uint64_t bucket(uint64_t owner)
+{
+    return owner % (UINT64_C(1) << 36) * 247175911 / (1 << 28) % 256;
+}
+
+static void prepare_owners(void)
+{
+    uint64_t random = 1, chosen = 0;
+    for (size_t slot = 0; slot < operation->full; slot++) {
+        random = next_random(random);
+        do
+            chosen++;
+        while (bucket(chosen) != 0);
+        saved_owners[slot] =
+            operation->layout == EVERY ? 1 + ((uint64_t)slot << operation->step)
+            : operation->layout == RANDOM ? 1 + random % RIDGE_CAPACITY_LAST
+            : operation->layout == CHOSEN ? chosen
+                                          : 1 + slot * 37 % RIDGE_SLOTS;
+    }
+    if (operation->layout == TWICE)
+        saved_owners[operation->full - 1] = saved_owners[operation->full - 2];
+}
+
 static void prepare_store(void)
 {
-    saved_state[RIDGE_WORD_CAPACITY] = CAPACITY;
+    saved_state[RIDGE_WORD_CAPACITY] =
+        operation->layout == SCATTERED ? CAPACITY : RIDGE_CAPACITY_LAST;
     saved_state[RIDGE_WORD_TYPE] = operation->type;
     saved_state[RIDGE_WORD_HOLDER] = operation->holder;
     for (size_t place = 0; place < operation->places; place++) {
         saved_state[RIDGE_WORD_NEXUS + place] = place;
         saved_state[RIDGE_WORD_KEY + place] = 0x10 + place;
     }
-    for (size_t slot = 0; slot < operation->full; slot++)
-        saved_owners[slot] = 1 + slot * 37 % RIDGE_SLOTS;
+    prepare_owners();
     for (size_t i = 0; i < sizeof medium; i++)
         medium[i] = (uint8_t)(i * 7 + i / 512);
 }

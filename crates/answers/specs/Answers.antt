@@ -84,6 +84,10 @@ statusOf Conflict = Given 0x18
 statusOf Unusable = Nothing
 statusOf Short = Nothing
 
+-- "the first 18 bytes of the sense buffer"
+abbrev pub senseBytes : ℕ
+senseBytes = 18
+
 -- "fixed format: byte 0 70h, byte 2 the key, byte 7 0Ah, bytes 12 and 13 the codes, others 0"
 unfoldable pub fixedFormat : Sense → List ℕ
 fixedFormat s =

@@ -2,7 +2,10 @@
 ghost use mathlib.Core.Path.{_≡_};
 ghost use Prim.Native.Nat.{_≤_};
 ghost use lib.ListN.{length};
-ghost use Rattle.answers.specs.Answers.{sense, notListed, invalidField, outOfRange, listLength, listField, noPlace, otherType, noRoom, senses, sameSense, rowOf, numberOf, statusOf, fixedFormat, senseAfter};
+ghost use Rattle.answers.specs.Answers.{sense, notListed, invalidField, outOfRange, listLength, listField, noPlace, otherType, noRoom, senses, sameSense, rowOf, numberOf, statusOf, fixedFormat, senseAfter, senseBytes};
+
+// How many bytes sense has.
+pub const SENSE_BYTES: usize = 18;
 
 // Sense key, additional sense code and its qualifier.
 pub struct Sense {
@@ -180,7 +183,7 @@ pub fn status_of(a: Answer) -> Status
     }
 }
 
-fn fixed_format(s: Sense) -> [u8; 18]
+fn fixed_format(s: Sense) -> [u8; SENSE_BYTES]
     ensures { λ r. ⌜ r ≡ fixedFormat s ⌝ }
 {
     [
@@ -207,13 +210,13 @@ fn fixed_format(s: Sense) -> [u8; 18]
 
 // Puts the sense of a refusal; any other answer leaves the buffer.
 pub fn put_sense(a: Answer, sense: &mut [u8])
-    requires { ⌜ 18 ≤ length (now sense) ⌝ }
+    requires { ⌜ senseBytes ≤ length (now sense) ⌝ }
     ensures { λ _. ⌜ now (sense .exit) ≡ senseAfter a (now (sense .entry)) ⌝ }
 {
     match a {
         Answer::Refused(s) => {
             let b = fixed_format(s);
-            fields::bytes::put(sense, &b, 18);
+            fields::bytes::put(sense, &b, SENSE_BYTES);
         }
         Answer::Good => {}
         Answer::Conflict => {}

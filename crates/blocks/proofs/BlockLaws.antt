@@ -14,9 +14,9 @@ use Rattle.answers.specs.declared.Answer.the-variants.{Good, Short}
 use Rattle.answers.specs.Answers.{outOfRange, listLength, listField, noRoom}
 use Rattle.answers.specs.Order.{first, refuses}
 use Rattle.answers.proofs.OrderLaws.{row-pass, row-stop, row-end}
-use Rattle.map.specs.Pool.{Pool, free, unmapped, readBlocks, writeBlocks}
-use Rattle.map.specs.Write.{pool, roomFor, Written, written, tryWrite}
-use Rattle.map.proofs.Reading.{length-readBlocks}
+use Rattle.pool.specs.Pool.{Pool, free, unmapped, readBlocks, writeBlocks, pool, roomFor}
+use Rattle.map.specs.Write.{Written, written, tryWrite}
+use Rattle.pool.proofs.Reading.{length-readBlocks}
 use Rattle.descriptors.specs.Descriptors.{considered, someFails, unmapAll}
 use Rattle.forms.specs.declared.Move.the-variants.{Read, Write, Unmap}
 use Rattle.forms.specs.declared.Form.{Form}

@@ -3,8 +3,7 @@
 use mathlib.Core.List.{List, []}
 use Prim.Native.Nat.{ℕ}
 use Rattle.answers.specs.Order.{first}
-use Rattle.map.specs.Pool.{Pool}
-use Rattle.map.specs.Write.{pool}
+use Rattle.pool.specs.Pool.{Pool, pool}
 use Rattle.descriptors.specs.Descriptors.{considered, unmapAll}
 use Rattle.forms.specs.declared.Move.the-variants.{Read, Write, Unmap}
 use Rattle.forms.specs.declared.Form.{Form}

@@ -2,24 +2,26 @@
 ghost use mathlib.Core.Path.{_≡_};
 ghost use Prim.Native.Nat.{_+_, _≤_};
 ghost use lib.Dec.{ltb};
-ghost use Rattle.map.specs.Write.{pool};
+ghost use Rattle.pool.specs.Bounds.{mostTransfer};
+ghost use Rattle.pool.specs.Pool.{pool};
 ghost use Rattle.forms.specs.Forms.{countOf};
 ghost use Rattle.decoder.specs.Sound.{Sound};
 ghost use Rattle.reply.specs.Reply.{Bounded, replied, leaving};
 ghost use Rattle.blocks.specs.Moved.{reads, writes};
 use answers::Answer;
 use forms::Form;
-use map::Lba;
+use pool::BLOCK_BYTES;
+use pool::Lba;
 use reply::Reply;
 
 // Whether the range reaches past the last block. No sum of an address and a count is taken: it could wrap.
-fn past_end(capacity: u64, address: u64, count: u64) -> bool
-    ensures { λ r. ⌜ r ≡ ltb capacity (address + count) ⌝ }
+fn past_end(capacity: u64, lba: Lba, count: u64) -> bool
+    ensures { λ r. ⌜ r ≡ ltb capacity (lba .0 + count) ⌝ }
 {
     if capacity < count {
         return true;
     }
-    capacity - count < address
+    capacity - count < lba.0
 }
 
 pub fn read(
@@ -30,13 +32,13 @@ pub fn read(
     cdb: &[u8],
     data_in: &mut [u8],
 ) -> Reply
-    requires { ⌜ Sound form × Bounded capacity (now owners) (now medium) × (countOf form (now cdb) ≤ 128) ⌝ }
+    requires { ⌜ Sound form × Bounded capacity (now owners) (now medium) × (countOf form (now cdb) ≤ mostTransfer) ⌝ }
     ensures { λ r. ⌜ replied r (now («data_in» .exit))
         ≡ reads form capacity (pool (now (owners .entry)) (now (medium .entry))) (now (cdb .entry)) (now («data_in» .entry)) ⌝ }
 {
-    let address = decoder::address(form, cdb);
+    let lba = decoder::address(form, cdb);
     let count = decoder::size(form, cdb);
-    if past_end(capacity, address, count) {
+    if past_end(capacity, lba, count) {
         let answer = answers::out_of_range();
         return Reply {
             answer,
@@ -44,14 +46,14 @@ pub fn read(
         };
     }
     let blocks = count as usize;
-    let bytes = 512 * blocks;
+    let bytes = BLOCK_BYTES * blocks;
     if data_in.len() < bytes {
         return Reply {
             answer: Answer::Short,
             returned: 0,
         };
     }
-    map::read::read_blocks(owners, medium, Lba(address), blocks, data_in);
+    map::read::read_blocks(owners, medium, lba, blocks, data_in);
     Reply {
         answer: Answer::Good,
         returned: bytes,
@@ -66,20 +68,20 @@ pub fn write(
     cdb: &[u8],
     data_out: &[u8],
 ) -> Answer
-    requires { ⌜ Sound form × Bounded capacity (now owners) (now medium) × (countOf form (now cdb) ≤ 128) ⌝ }
+    requires { ⌜ Sound form × Bounded capacity (now owners) (now medium) × (countOf form (now cdb) ≤ mostTransfer) ⌝ }
     ensures { λ r. ⌜ leaving r (pool (now (owners .exit)) (now (medium .exit)))
         ≡ writes form capacity (pool (now (owners .entry)) (now (medium .entry))) (now (cdb .entry)) (now («data_out» .entry)) ⌝ }
 {
-    let address = decoder::address(form, cdb);
+    let lba = decoder::address(form, cdb);
     let count = decoder::size(form, cdb);
-    if past_end(capacity, address, count) {
+    if past_end(capacity, lba, count) {
         return answers::out_of_range();
     }
     let blocks = count as usize;
-    if data_out.len() < 512 * blocks {
+    if data_out.len() < BLOCK_BYTES * blocks {
         return Answer::Short;
     }
-    if map::write::write_blocks(owners, medium, Lba(address), blocks, data_out) {
+    if map::write::write_blocks(owners, medium, lba, blocks, data_out) {
         Answer::Good
     } else {
         answers::no_room()

@@ -9,7 +9,7 @@ use Rattle.fields.specs.Bytes.{zeros}
 use Rattle.answers.specs.declared.Answer.the-variants.{Good, Unusable}
 use Rattle.answers.specs.Order.{ifGood, ifGoodBy, refuses}
 use Rattle.answers.proofs.OrderLaws.{row-pass, row-stop, row-end}
-use Rattle.map.specs.Valid.{capacityOk, slotsOk}
+use Rattle.pool.specs.Valid.{capacityOk, slotsOk}
 use Rattle.rights.specs.declared.Rights.{Rights}
 use Rattle.rights.specs.Rights.{noRights}
 use Rattle.store.specs.Fresh.{freshUnit, freshAnswer, fresh}

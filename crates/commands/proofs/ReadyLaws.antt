@@ -8,12 +8,12 @@ use native.Mathlib.Omega.{arith}
 use lib.Dec.{T, eqb, leb, ltb, leb→le, eqb→eq, nltb→le}
 use lib.ListN.{length}
 use Rattle.fields.proofs.Tests.{and-l, and-r, true→T, T-true}
-use Rattle.map.specs.declared.Slot.{Slot}
-use Rattle.map.specs.declared.Checked.{Checked}
-use Rattle.map.specs.declared.Checked.the-variants.{Valid, Beyond, Clash}
-use Rattle.map.specs.Valid.{capacityOk, slotsOk, mapOk, poolOk, checked}
-use Rattle.map.specs.Write.{pool}
-use Rattle.map.proofs.Clashes.{checked-valid, valid-checked}
+use Rattle.pool.specs.declared.Slot.{Slot}
+use Rattle.pool.specs.declared.Checked.{Checked}
+use Rattle.pool.specs.declared.Checked.the-variants.{Valid, Beyond, Clash}
+use Rattle.pool.specs.Valid.{capacityOk, slotsOk, mapOk, poolOk, checked}
+use Rattle.pool.specs.Pool.{pool}
+use Rattle.pool.proofs.Clashes.{checked-valid, valid-checked}
 use Rattle.rights.specs.Rights.{rightsOk}
 use Rattle.store.specs.declared.Unit.{Unit}
 use Rattle.store.specs.Store.{Store, Call, unitOk, usable}

@@ -28,8 +28,7 @@ use Rattle.reply.specs.Reply.{Replied, replyOf, served, leaving, settles, serve
 use Rattle.alter.specs.Altered.{altered}
 use Rattle.commands.specs.Served.{altersTo, bare, servedBy}
 use Rattle.reply.proofs.ReplyLaws.{plain, serving, serves-reply, serves-part, serves-refused, serves-settled}
-use Rattle.map.specs.Pool.{Pool}
-use Rattle.map.specs.Write.{pool}
+use Rattle.pool.specs.Pool.{Pool, pool}
 use Rattle.descriptors.specs.Descriptors.{considered, unmapAll}
 use Rattle.rights.specs.Conflict.{conflict}
 use Rattle.forms.specs.declared.Move.{Move}

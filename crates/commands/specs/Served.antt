@@ -7,6 +7,7 @@ use lib.Dec.{eqb, ltb}
 use lib.ListN.{length}
 use Rattle.answers.specs.declared.Answer.{Answer}
 use Rattle.answers.specs.declared.Answer.the-variants.{Unusable}
+use Rattle.answers.specs.Answers.{senseBytes}
 use Rattle.answers.specs.Order.{first}
 use Rattle.rights.specs.Bounds.{lastNexus}
 use Rattle.rights.specs.declared.Decision.{Decision}
@@ -25,7 +26,7 @@ use Rattle.reply.specs.Reply.{Served, serves}
 -- nothing refuses the call before its command is looked at
 unfoldable pub readyFor : Store → Call → Bool
 readyFor s c =
-    not (ltb lastNexus (c .nexus)) && (not (eqb (length (c .cdb)) 0) && (not (ltb (length (c .sense)) 18) && usable s))
+    not (ltb lastNexus (c .nexus)) && (not (eqb (length (c .cdb)) 0) && (not (ltb (length (c .sense)) senseBytes) && usable s))
 
 -- the outcome of a reply
 abbrev pub replying : Reply → Unit → Outcome

@@ -1,12 +1,16 @@
 // The first tests of every call: who calls, what is lent, and whether the store is within its bounds and valid.
 ghost use mathlib.Core.Path.{_≡_};
 ghost use mathlib.Core.List.{[]};
-ghost use Rattle.map.specs.Write.{pool};
-ghost use Rattle.map.specs.Valid.{capacityOk, slotsOk, mapOk, poolOk};
+ghost use Rattle.pool.specs.Pool.{pool};
+ghost use Rattle.pool.specs.Valid.{capacityOk, slotsOk, mapOk, poolOk};
 ghost use Rattle.store.specs.Store.{unitOk};
 ghost use Rattle.reply.specs.Contract.{storeOf, callOf};
 ghost use Rattle.commands.specs.Served.{readyFor};
-use map::Checked;
+use answers::SENSE_BYTES;
+use pool::BLOCK_BYTES;
+use pool::Checked;
+use pool::MOST_BLOCKS;
+use pool::MOST_SLOTS;
 use rights::LAST_NEXUS;
 use store::Unit;
 
@@ -16,7 +20,7 @@ pub fn capacity_ok(capacity: u64) -> bool
     if capacity < 1 {
         return false;
     }
-    capacity <= 0x100_0000_0000
+    capacity <= MOST_BLOCKS
 }
 
 pub fn slots_ok(slots: usize) -> bool
@@ -25,13 +29,13 @@ pub fn slots_ok(slots: usize) -> bool
     if slots < 1 {
         return false;
     }
-    slots <= 128
+    slots <= MOST_SLOTS
 }
 
 fn map_ok(capacity: u64, owners: &[u64]) -> bool
     ensures { λ r. ⌜ r ≡ mapOk capacity (now (owners .entry)) ⌝ }
 {
-    let checked = map::check::check(capacity, owners);
+    let checked = audit::check(capacity, owners);
     match checked {
         Checked::Valid => true,
         Checked::Beyond(_) => false,
@@ -55,7 +59,7 @@ fn pool_ok(capacity: u64, owners: &[u64], medium: &[u8]) -> bool
     if !slots_ok(owners.len()) {
         return false;
     }
-    if medium.len() != 512 * owners.len() {
+    if medium.len() != BLOCK_BYTES * owners.len() {
         return false;
     }
     map_ok(capacity, owners)
@@ -74,7 +78,7 @@ pub fn ready(unit: Unit, owners: &[u64], medium: &[u8], nexus: u8, cdb: &[u8], s
     if cdb.len() == 0 {
         return false;
     }
-    if sense.len() < 18 {
+    if sense.len() < SENSE_BYTES {
         return false;
     }
     if !unit_ok(unit) {

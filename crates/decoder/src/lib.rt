@@ -7,6 +7,7 @@ ghost use Rattle.decoder.specs.Sound.{Sound};
 ghost use Rattle.forms.specs.Tests.{formRows};
 use answers::Answer;
 use forms::Form;
+use pool::Lba;
 
 mod codes;
 mod tests;
@@ -28,14 +29,14 @@ pub fn form_of(cdb: &[u8]) -> Form
 }
 
 // The block address; 0 where the row has none.
-pub fn address(form: Form, cdb: &[u8]) -> u64
+pub fn address(form: Form, cdb: &[u8]) -> Lba
     requires { ⌜ Sound form ⌝ }
-    ensures { λ r. ⌜ r ≡ addressOf form (now (cdb .entry)) ⌝ }
+    ensures { λ r. ⌜ r .0 ≡ addressOf form (now (cdb .entry)) ⌝ }
 {
     let span = form.address;
     let at = span.at;
     let width = span.width;
-    fields::numbers::number(cdb, at, width)
+    Lba(fields::numbers::number(cdb, at, width))
 }
 
 // The count of blocks, the allocation length or the list length; 0 where the row has none.

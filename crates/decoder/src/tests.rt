@@ -13,6 +13,7 @@ use forms::Command;
 use forms::Move;
 use forms::Tell;
 use answers::Answer;
+use pool::MOST_TRANSFER;
 use rights::Action;
 
 pub fn is_unlisted(command: Command) -> bool
@@ -56,7 +57,7 @@ fn transfer(form: Form, cdb: &[u8]) -> Answer
     if 32 <= fields::numbers::byte(cdb, 1) {
         return answers::invalid_field();
     }
-    if 128 < super::size(form, cdb) {
+    if super::size(form, cdb) > MOST_TRANSFER as u64 {
         return answers::invalid_field();
     }
     Answer::Good

@@ -4,10 +4,10 @@ use mathlib.Core.Path.{_≡_}
 use mathlib.Core.Logic.{_≢_}
 use lib.Dec.{T, not-T}
 use Rattle.answers.specs.declared.Answer.the-variants.{Unusable}
-use Rattle.map.specs.Valid.{checked}
-use Rattle.map.specs.declared.Checked.the-variants.{Valid}
-use Rattle.map.proofs.Keeping.{poolOk-map}
-use Rattle.map.proofs.Clashes.{valid-checked}
+use Rattle.pool.specs.Valid.{checked}
+use Rattle.pool.specs.declared.Checked.the-variants.{Valid}
+use Rattle.pool.proofs.Keeping.{poolOk-map}
+use Rattle.pool.proofs.Clashes.{valid-checked}
 use Rattle.store.specs.Store.{Store, Call, usable}
 use Rattle.store.specs.Step.{step}
 use Rattle.demands.proofs.Usable.{usable-pool}

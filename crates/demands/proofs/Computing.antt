@@ -5,9 +5,8 @@ use Rattle.fields.specs.Bytes.{part, put, zeros}
 use Rattle.fields.specs.Field.{byte, bit, field, bytes}
 use Rattle.answers.specs.Answers.{senses, sameSense, rowOf, numberOf, statusOf, fixedFormat, senseAfter}
 use Rattle.answers.specs.Order.{first, ifGood, firstOf, ifGoodBy, refuses}
-use Rattle.map.specs.Pool.{place, has, mapped, free, unmapped, readBlock, readBlocks, fill, assign, assignBlocks, putBlocks, writeBlocks, freed, unmapOwners}
-use Rattle.map.specs.Write.{roomFor}
-use Rattle.map.specs.Valid.{within, distinct, mapOk, capacityOk, slotsOk, poolOk}
+use Rattle.pool.specs.Pool.{place, has, mapped, free, unmapped, readBlock, readBlocks, fill, assign, assignBlocks, putBlocks, writeBlocks, names, freed, unmapOwners, roomFor}
+use Rattle.pool.specs.Valid.{within, distinct, mapOk, capacityOk, slotsOk, poolOk}
 use Rattle.rights.specs.Places.{used, isOf, registered, keyOf, somebody, vacant, known, enrol, rekeyed, spares, without}
 use Rattle.rights.specs.Rights.{isOneOf, isType, oneHolds, allHold, holds, holderKey, placeOk, placesApart, placesOk, stands, rightsOk, held, gone, ended, withPlaces, settled, raised, noRights}
 use Rattle.rights.specs.Conflict.{passes, stops, conflict, shutOut}
@@ -29,5 +28,5 @@ use Rattle.demands.specs.Cases.{caseOf, caseNew, caseA, caseB, caseC, ca
 use Rattle.demands.specs.FurtherCases.{caseCounts, caseNinth, caseGeneration, caseGone, caseShared, caseSlots, caseUnmap, caseFields, furtherCases}
 
 unfoldable pub meaning : Bool
-unfolding part put zeros byte bit field bytes senses sameSense rowOf numberOf statusOf fixedFormat senseAfter firstOf ifGoodBy refuses place has mapped free unmapped roomFor readBlock readBlocks fill assign assignBlocks putBlocks writeBlocks freed unmapOwners within distinct mapOk capacityOk slotsOk poolOk used isOf registered keyOf somebody vacant known enrol rekeyed spares without isOneOf isType oneHolds allHold holds placeOk placesApart placesOk stands rightsOk held gone ended withPlaces settled raised noRights passes stops conflict shutOut flagsWrong stranger keyWrong crowded actionRows decisionRows registering reserving releasing clearing preempting acted keys keysData holderKey reservationData descriptorAt considered fails someFails unmapAll action takes lines lookup formFor formOf addressOf sizeOf isUnlisted inquiryRows transferRows unmapRows typeRows fieldRows formRows unitOk usable seenOf inquiryData capacity10Data capacity16Data available told tellRows access pastEnd rangeRows moveRows moved fetched parametersOf alterRows callRows storeRows ownRows answerBy dataBy storeBy stepBy step freshUnit freshAnswer fresh freshStore after isOut isShutOut kept add watched heard good good-long refused conflicts no-status same sameStatus senseShows met ends run passed allPassed block before new at two eight made call ready capacity-10 capacity-16 cdb-10 cdb-16 read-10 read-16 write-10 write-16 unmap-list descriptor unmap-1 out in-call caseOf caseNew caseA caseB caseC caseD caseE caseF caseG writeH caseH caseI caseJ caseK caseL cases caseCounts caseNinth caseGeneration caseGone caseShared caseSlots caseUnmap caseFields furtherCases
+unfolding part put zeros byte bit field bytes senses sameSense rowOf numberOf statusOf fixedFormat senseAfter firstOf ifGoodBy refuses place has mapped free unmapped roomFor readBlock readBlocks fill assign assignBlocks putBlocks writeBlocks names freed unmapOwners within distinct mapOk capacityOk slotsOk poolOk used isOf registered keyOf somebody vacant known enrol rekeyed spares without isOneOf isType oneHolds allHold holds placeOk placesApart placesOk stands rightsOk held gone ended withPlaces settled raised noRights passes stops conflict shutOut flagsWrong stranger keyWrong crowded actionRows decisionRows registering reserving releasing clearing preempting acted keys keysData holderKey reservationData descriptorAt considered fails someFails unmapAll action takes lines lookup formFor formOf addressOf sizeOf isUnlisted inquiryRows transferRows unmapRows typeRows fieldRows formRows unitOk usable seenOf inquiryData capacity10Data capacity16Data available told tellRows access pastEnd rangeRows moveRows moved fetched parametersOf alterRows callRows storeRows ownRows answerBy dataBy storeBy stepBy step freshUnit freshAnswer fresh freshStore after isOut isShutOut kept add watched heard good good-long refused conflicts no-status same sameStatus senseShows met ends run passed allPassed block before new at two eight made call ready capacity-10 capacity-16 cdb-10 cdb-16 read-10 read-16 write-10 write-16 unmap-list descriptor unmap-1 out in-call caseOf caseNew caseA caseB caseC caseD caseE caseF caseG writeH caseH caseI caseJ caseK caseL cases caseCounts caseNinth caseGeneration caseGone caseShared caseSlots caseUnmap caseFields furtherCases
 meaning = true

@@ -12,8 +12,8 @@ use Rattle.answers.specs.declared.Answer.{Answer}
 use Rattle.answers.specs.declared.Answer.the-variants.{Good, Refused, Conflict, Unusable, Short}
 use Rattle.answers.specs.Order.{first, ifGood, ifGoodBy, refuses}
 use Rattle.answers.proofs.OrderLaws.{row-stop, if-refused}
-use Rattle.map.specs.Valid.{slotsOk}
-use Rattle.map.proofs.Keeping.{poolOk-of, mapOk-zeros}
+use Rattle.pool.specs.Valid.{slotsOk}
+use Rattle.pool.proofs.Keeping.{poolOk-of, mapOk-zeros}
 use Rattle.rights.specs.declared.Rights.{Rights}
 use Rattle.rights.specs.declared.Access.{Access}
 use Rattle.rights.specs.declared.Access.the-variants.{Reads, Writes}

@@ -13,8 +13,8 @@ use Rattle.answers.specs.declared.Answer.{Answer}
 use Rattle.answers.specs.declared.Answer.the-variants.{Good, Unusable}
 use Rattle.answers.specs.Order.{_if_, first, next, ifGood, firstOf, ifGoodBy, nextBy, refuses}
 use Rattle.answers.proofs.OrderLaws.{row-stop}
-use Rattle.map.specs.Valid.{capacityOk, slotsOk}
-use Rattle.map.proofs.Keeping.{poolOk-of, mapOk-zeros}
+use Rattle.pool.specs.Valid.{capacityOk, slotsOk}
+use Rattle.pool.proofs.Keeping.{poolOk-of, mapOk-zeros}
 use Rattle.rights.specs.Places.{used, registered}
 use Rattle.rights.specs.Rights.{noRights, placeOk, placesApart, placesOk, stands, rightsOk}
 use Rattle.forms.specs.Forms.{formOf}

@@ -8,7 +8,7 @@ use Prim.Native.Nat.{ℕ}
 use Rattle.answers.specs.declared.Answer.{Answer}
 use Rattle.answers.specs.declared.Answer.the-variants.{Good}
 use Rattle.answers.specs.Answers.{numberOf}
-use Rattle.map.specs.Pool.{Pool}
+use Rattle.pool.specs.Pool.{Pool}
 use Rattle.store.specs.Store.{Store, Call, Result}
 use Rattle.store.specs.Step.{step}
 use Rattle.demands.specs.History.{after}

@@ -12,11 +12,11 @@ use Rattle.answers.specs.declared.Answer.the-variants.{Conflict, Short}
 use Rattle.answers.specs.Answers.{outOfRange, noRoom}
 use Rattle.answers.specs.Order.{Row, _if_, first, firstOf}
 use Rattle.answers.proofs.OrderLaws.{good-cases}
-use Rattle.map.specs.Pool.{Pool}
-use Rattle.map.specs.Write.{roomFor}
-use Rattle.map.specs.Valid.{capacityOk, slotsOk, poolOk}
-use Rattle.map.proofs.Keeping.{mapOk-distinct, poolOk-map, poolOk-unmapBlocks}
-use Rattle.map.proofs.Alike.{Alike, alike-self, alike-back, alike-through, alike-unmapped, alike-reads, alike-write, alike-unmap}
+use Rattle.pool.specs.Pool.{Pool, roomFor}
+use Rattle.pool.specs.Valid.{capacityOk, slotsOk, poolOk}
+use Rattle.pool.proofs.Keeping.{mapOk-distinct, poolOk-map, poolOk-unmapBlocks}
+use Rattle.pool.specs.Alike.{Alike}
+use Rattle.pool.proofs.Alike.{alike-self, alike-back, alike-through, alike-unmapped, alike-reads, alike-write, alike-unmap}
 use Rattle.descriptors.specs.declared.Descriptor.{Descriptor}
 use Rattle.rights.specs.Actions.{acted}
 use Rattle.forms.specs.declared.Move.{Move}

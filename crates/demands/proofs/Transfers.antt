@@ -14,10 +14,9 @@ use Rattle.answers.specs.declared.Answer.the-variants.{Good, Short}
 use Rattle.answers.specs.Answers.{outOfRange, noRoom}
 use Rattle.answers.specs.Order.{first, ifGood, ifGoodBy, refuses}
 use Rattle.answers.proofs.OrderLaws.{row-fails, rows-after}
-use Rattle.map.specs.Pool.{Pool, free, unmapped, readBlock, readBlocks, writeBlocks}
-use Rattle.map.specs.Write.{roomFor}
-use Rattle.map.proofs.Keeping.{poolOk-whole}
-use Rattle.map.proofs.Reading.{fresh-read, read-fresh, write-in, write-out, reads-same, read-after-write, length-readBlocks}
+use Rattle.pool.specs.Pool.{Pool, free, unmapped, readBlock, readBlocks, writeBlocks, roomFor}
+use Rattle.pool.proofs.Keeping.{poolOk-whole}
+use Rattle.pool.proofs.Reading.{fresh-read, read-fresh, write-in, write-out, reads-same, read-after-write, length-readBlocks}
 use Rattle.forms.specs.declared.Move.the-variants.{Read, Write}
 use Rattle.forms.specs.declared.Command.the-variants.{Moves}
 use Rattle.forms.specs.declared.Form.{Form}

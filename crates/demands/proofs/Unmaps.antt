@@ -9,9 +9,9 @@ use lib.Dec.{T, leb, ltb, leb→le, ltb→lt, le→leb, lt→ltb}
 use Rattle.fields.specs.Bytes.{zeros}
 use Rattle.fields.proofs.Tests.{and-l, and-r, both, or-l, or-r, by-test, T-true, T-false}
 use Rattle.answers.specs.declared.Answer.the-variants.{Good}
-use Rattle.map.specs.Pool.{Pool, readBlock, unmapOwners, unmapBlocks}
-use Rattle.map.proofs.Writing.{in-or-out}
-use Rattle.map.proofs.Reading.{unmap-in, unmap-out, reads-same, reads-zeros}
+use Rattle.pool.specs.Pool.{Pool, readBlock, unmapOwners, unmapBlocks}
+use Rattle.pool.proofs.Writing.{in-or-out}
+use Rattle.pool.proofs.Reading.{unmap-in, unmap-out, reads-same, reads-zeros}
 use Rattle.descriptors.specs.declared.Descriptor.{Descriptor}
 use Rattle.descriptors.specs.Descriptors.{descriptorAt, considered, unmapAll}
 use Rattle.forms.specs.declared.Move.the-variants.{Read, Unmap}

@@ -13,9 +13,9 @@ use Rattle.answers.specs.declared.Answer.the-variants.{Good, Refused, Conflict,
 use Rattle.answers.specs.Answers.{notListed, invalidField, outOfRange, listLength}
 use Rattle.answers.specs.Order.{first, ifGood, ifGoodBy, refuses}
 use Rattle.answers.proofs.OrderLaws.{row-fails, rows-after}
-use Rattle.map.specs.Pool.{Pool, writeBlocks, unmapBlocks}
-use Rattle.map.specs.Valid.{capacityOk, poolOk}
-use Rattle.map.proofs.Keeping.{poolOk-writeBlocks, poolOk-unmapBlocks, length-assignBlocks, length-putBlocks, length-unmapOwners}
+use Rattle.pool.specs.Pool.{Pool, writeBlocks, unmapBlocks}
+use Rattle.pool.specs.Valid.{capacityOk, poolOk}
+use Rattle.pool.proofs.Keeping.{poolOk-writeBlocks, poolOk-unmapBlocks, length-assignBlocks, length-putBlocks, length-unmapOwners}
 use Rattle.descriptors.specs.Descriptors.{descriptorAt, unmapAll}
 use Rattle.rights.specs.declared.Action.{Action}
 use Rattle.rights.specs.declared.Action.the-variants.{Register, Reserve, Release, Clear, Preempt, RegisterIgnoring}

@@ -13,9 +13,8 @@ use Rattle.answers.specs.declared.Answer.the-variants.{Good, Conflict, Short}
 use Rattle.answers.specs.Answers.{outOfRange, listLength, listField, noRoom}
 use Rattle.answers.specs.Order.{first, next, refuses}
 use Rattle.answers.proofs.OrderLaws.{row-pass, row-stop, row-end, row-fails, rows-after, next-good, next-first, next-second}
-use Rattle.map.specs.Pool.{free, unmapped}
-use Rattle.map.specs.Write.{roomFor}
-use Rattle.map.specs.Valid.{capacityOk, slotsOk}
+use Rattle.pool.specs.Pool.{free, unmapped, roomFor}
+use Rattle.pool.specs.Valid.{capacityOk, slotsOk}
 use Rattle.descriptors.specs.Descriptors.{considered, someFails}
 use Rattle.rights.specs.declared.Access.the-variants.{Reads}
 use Rattle.rights.specs.Conflict.{conflict, stops}

@@ -11,8 +11,8 @@ use Rattle.fields.specs.Field.{byte, bit, bytes}
 use Rattle.answers.specs.declared.Answer.{Answer}
 use Rattle.answers.specs.declared.Answer.the-variants.{Good}
 use Rattle.answers.specs.Order.{first, next}
-use Rattle.map.specs.Pool.{Pool, free, unmapped, unmapBlocks}
-use Rattle.map.proofs.Alike.{Alike}
+use Rattle.pool.specs.Pool.{Pool, free, unmapped, unmapBlocks}
+use Rattle.pool.specs.Alike.{Alike}
 use Rattle.descriptors.specs.declared.Descriptor.{Descriptor}
 use Rattle.descriptors.specs.Descriptors.{descriptorAt, considered}
 use Rattle.rights.specs.Conflict.{conflict}

@@ -11,9 +11,9 @@ use Rattle.fields.specs.Bytes.{zeros}
 use Rattle.answers.specs.declared.Answer.the-variants.{Good, Unusable}
 use Rattle.answers.specs.Answers.{numberOf, senseAfter}
 use Rattle.rights.specs.Rights.{isOneOf}
-use Rattle.map.specs.declared.Checked.the-variants.{Valid}
-use Rattle.map.specs.Pool.{readBlock}
-use Rattle.map.specs.Valid.{checked}
+use Rattle.pool.specs.declared.Checked.the-variants.{Valid}
+use Rattle.pool.specs.Pool.{readBlock}
+use Rattle.pool.specs.Valid.{checked}
 use Rattle.forms.specs.declared.Move.{Move}
 use Rattle.forms.specs.declared.Move.the-variants.{Read, Write, Unmap}
 use Rattle.store.specs.Store.{Store, Call, usable, seenOf}

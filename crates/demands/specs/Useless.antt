@@ -5,7 +5,7 @@ use lib.Dec.{eqb}
 use Rattle.answers.specs.declared.Answer.{Answer}
 use Rattle.answers.specs.declared.Answer.the-variants.{Good, Unusable}
 use Rattle.answers.specs.Answers.{noRoom, senseAfter}
-use Rattle.map.specs.Pool.{free}
+use Rattle.pool.specs.Pool.{free}
 use Rattle.store.specs.Store.{Call, Seen}
 use Rattle.store.specs.Step.{step}
 use Rattle.demands.specs.History.{Build}

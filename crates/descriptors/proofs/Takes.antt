@@ -10,7 +10,7 @@ use borrow.Author.Tests.{lt-ltb, le-ltb, ltb-false}
 use Rattle.fields.specs.Field.{field}
 use Rattle.fields.proofs.Tests.{test}
 use lib.ListN.{length, length-map}
-use Rattle.map.specs.Pool.{unmapOwners, freed}
+use Rattle.pool.specs.Pool.{unmapOwners, freed}
 use Rattle.descriptors.specs.declared.Descriptor.{Descriptor}
 use Rattle.descriptors.specs.Descriptors.{descriptorAt, considered, fails, someFails, unmapAll}
 

@@ -5,7 +5,7 @@ use mathlib.Core.List.{List}
 use Prim.Native.Nat.{ℕ, zero, suc, _+_, _-_, _/_, min}
 use lib.Dec.{ltb}
 use Rattle.fields.specs.Field.{field}
-use Rattle.map.specs.Pool.{unmapOwners}
+use Rattle.pool.specs.Pool.{unmapOwners}
 use Rattle.descriptors.specs.declared.Descriptor.{Descriptor}
 
 -- "16 bytes each: address 0-7, count 8-11": the descriptor from byte `at` of the list on

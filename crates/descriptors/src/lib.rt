@@ -3,7 +3,7 @@ ghost use mathlib.Core.Path.{_≡_};
 ghost use mathlib.Core.Bool.{false};
 ghost use Prim.Native.Nat.{_≤_, _<_, _^_};
 ghost use Rattle.descriptors.specs.Descriptors.{descriptorAt, considered, fails, someFails, unmapAll};
-use map::Lba;
+use pool::Lba;
 
 // A range of blocks to unmap.
 pub struct Descriptor {

@@ -9,6 +9,7 @@ use Rattle.fields.specs.Field.{byte, bit}
 use Rattle.answers.specs.declared.Answer.the-variants.{Unusable}
 use Rattle.answers.specs.Answers.{notListed, invalidField}
 use Rattle.answers.specs.Order.{Row, _if_}
+use Rattle.pool.specs.Bounds.{mostTransfer}
 use Rattle.rights.specs.declared.Action.the-variants.{Register, Reserve, Release, Clear, Preempt, RegisterIgnoring}
 use Rattle.rights.specs.Rights.{isType}
 use Rattle.forms.specs.declared.Tell.the-variants.{Ready, Inquiry, Capacity10, Capacity16, Keys, Reservation}
@@ -31,7 +32,7 @@ inquiryRows cdb = invalidField if bit 0 (byte 1 cdb) ∷ invalidField if not (eq
 
 -- "Byte 1 bits 7-5 not 0, or count above 128: 2."
 unfoldable pub transferRows : Form → List ℕ → List Row
-transferRows f cdb = invalidField if leb 32 (byte 1 cdb) ∷ invalidField if ltb 128 (countOf f cdb) ∷ []
+transferRows f cdb = invalidField if leb 32 (byte 1 cdb) ∷ invalidField if ltb mostTransfer (countOf f cdb) ∷ []
 
 -- "byte 1 bit 0 (ANCHOR) set: 2"
 unfoldable pub unmapRows : List ℕ → List Row

@@ -9,20 +9,21 @@ use native.Mathlib.Omega.{arith}
 use native.Mathlib.Nat.{add-zero}
 use native.Mathlib.Numerals.{add-one}
 use lib.Dec.{T, ltb, ltb→lt, nltb→le}
-use lib.ListN.{length, getD, take, drop, set, length-append, drop-of-length-le}
-use lib.Seq.{drop-cons, drop-drop, length-take-le, take-suc}
+use lib.ListN.{length, getD, take, drop, set, length-append, length-set, drop-of-length-le}
+use lib.Seq.{drop-cons, drop-drop, length-take-le, take-suc, take-set-lt}
 use borrow.Author.Tests.{ne-eqb, lt-ltb, le-ltb}
 use borrow.Rule.Slice.PartMut.{putMid, post-is}
 use Rattle.fields.specs.Bytes.{part, put, zeros}
 use Rattle.fields.proofs.BytesLaws.{put-is, put-next, put-none, length-part, length-zeros}
 use Rattle.fields.proofs.Tests.{test, true→T, T-true, T-false, by-equal}
-use Rattle.map.specs.Pool.{place, has, mapped, free, unmapped, fill, assign, assignBlocks, putBlocks, readBlock, readBlocks}
-use Rattle.map.specs.Index.{places, slotBytes, readPlaces, putPlaces}
-use Rattle.map.specs.Write.{pool}
-use Rattle.map.proofs.Held.{place-below, place-none, below-has, fill-set, has-free}
-use Rattle.map.proofs.Keeping.{length-assign, length-assignBlocks}
-use Rattle.map.proofs.Writing.{free-assign, assign-mapped, unmapped-assign, mapped-write-in}
-use Rattle.map.proofs.Indexing.{places-at, places-fill}
+use Rattle.pool.specs.Bounds.{blockBytes}
+use Rattle.pool.specs.Pool.{place, has, mapped, free, unmapped, fill, assign, assignBlocks, putBlocks, readBlock, readBlocks}
+use Rattle.map.specs.Index.{places, Indexed, slotBytes, readPlaces, putPlaces}
+use Rattle.pool.specs.Pool.{pool}
+use Rattle.pool.proofs.Held.{place-below, place-none, below-has, fill-set, has-free}
+use Rattle.pool.proofs.Keeping.{length-assign, length-assignBlocks}
+use Rattle.pool.proofs.Writing.{free-assign, assign-mapped, unmapped-assign, mapped-write-in}
+use Rattle.map.proofs.Indexing.{places-fill, index-at}
 
 -- a part that was lent comes back as bytes laid over
 pub lent-back : (m b : List ℕ) (a k : ℕ) → length b ≡ k → a + k ≤ length m → putMid a (a + k - a) m b ≡ put m a b
@@ -44,32 +45,31 @@ below-is x o =
     (λ t. let e = place-none x o t in le-ltb (place x o) (length o) (omega arith) ∙ sym (T-false (has x o) t))
 
 module _ (m : List ℕ) (slots i : ℕ) where
-  pub bytes-at : i < slots → slotBytes m slots i ≡ part m (512 * i) 512
+  pub bytes-at : i < slots → slotBytes m slots i ≡ part m (blockBytes * i) blockBytes
   unfolding slotBytes
   bytes-at h = rw (lt-ltb i slots h)
 
-  pub bytes-none : slots ≤ i → slotBytes m slots i ≡ zeros 512
+  pub bytes-none : slots ≤ i → slotBytes m slots i ≡ zeros blockBytes
   unfolding slotBytes
   bytes-none h = rw (le-ltb i slots h)
 
-  pub length-bytes : length m ≡ 512 * slots → length (slotBytes m slots i) ≡ 512
+  pub length-bytes : length m ≡ blockBytes * slots → length (slotBytes m slots i) ≡ blockBytes
   length-bytes e =
       test (ltb i slots)
-      (λ t. ap length (bytes-at (ltb→lt i slots t)) ∙ length-part m (512 * i) 512 (let h = ltb→lt i slots t in omega arith))
-      (λ t. ap length (bytes-none (nltb→le i slots t)) ∙ length-zeros 512)
+      (λ t. ap length (bytes-at (ltb→lt i slots t)) ∙ length-part m (blockBytes * i) blockBytes (let h = ltb→lt i slots t in omega arith))
+      (λ t. ap length (bytes-none (nltb→le i slots t)) ∙ length-zeros blockBytes)
 
 block-is : (o m : List ℕ) (a : ℕ) → slotBytes m (length o) (place (suc a) o) ≡ readBlock (pool o m) a
 unfolding slotBytes readBlock mapped
 block-is o m a = rw (below-is (suc a) o)
 
-pub readPlaces-is : (o m : List ℕ) (a w n : ℕ) → n ≤ w → readPlaces m (length o) (take n (places o a w)) ≡ readBlocks (pool o m) a n
+pub readPlaces-is : (o m : List ℕ) (a n : ℕ) → readPlaces m (length o) (places o a n) ≡ readBlocks (pool o m) a n
 unfolding readPlaces readBlocks places
-readPlaces-is o m a w zero h = refl
-readPlaces-is o m a zero (suc n) h = absurd (omega arith)
-readPlaces-is o m a (suc w) (suc n) h = rw (block-is o m a, readPlaces-is o m (suc a) w n (omega arith))
+readPlaces-is o m a zero = refl
+readPlaces-is o m a (suc n) = rw (block-is o m a, readPlaces-is o m (suc a) n)
 
 module _ (m : List ℕ) (slots : ℕ) where
-  length-read : length m ≡ 512 * slots → (is : List ℕ) → length (readPlaces m slots is) ≡ 512 * length is
+  length-read : length m ≡ blockBytes * slots → (is : List ℕ) → length (readPlaces m slots is) ≡ blockBytes * length is
   unfolding readPlaces
   length-read e [] = refl
   length-read e (i ∷ is) =
@@ -86,47 +86,45 @@ module _ (m : List ℕ) (slots : ℕ) where
   read-start is out = sym (put-none out 0)
 
   -- a turn: block k is laid behind those before it
-  pub read-turn : (is out₀ out b : List ℕ) (k : ℕ) → length m ≡ 512 * slots → k < length is → 512 * k + 512 ≤ length out
+  pub read-turn : (is out₀ out b : List ℕ) (k : ℕ) → length m ≡ blockBytes * slots → k < length is → blockBytes * k + blockBytes ≤ length out
       → out ≡ put out₀ 0 (readPlaces m slots (take k is)) → b ≡ slotBytes m slots (getD is k 0)
-      → putMid (512 * k) (512 * k + 512 - 512 * k) out b ≡ put out₀ 0 (readPlaces m slots (take (k + 1) is))
+      → putMid (blockBytes * k) (blockBytes * k + blockBytes - blockBytes * k) out b ≡ put out₀ 0 (readPlaces m slots (take (k + 1) is))
   read-turn is out₀ out b k e h f q g =
       let r = readPlaces m slots (take k is) in
-      let n : 512 * k ≡ 0 + length r = omega (arith, length-read e (take k is), length-take-le k is (omega arith)) in
+      let n : blockBytes * k ≡ 0 + length r = omega (arith, length-read e (take k is), length-take-le k is (omega arith)) in
       let more : r ++ b ≡ readPlaces m slots (take (k + 1) is) =
       rw (add-one k, take-suc is k 0 h, g) (sym (read-last (take k is) (getD is k 0))) in
-      lent-back out b (512 * k) 512 (ap length g ∙ length-bytes m slots (getD is k 0) e) f
-      ∙ ap (λ (l : List ℕ). put l (512 * k) b) q
+      lent-back out b (blockBytes * k) blockBytes (ap length g ∙ length-bytes m slots (getD is k 0) e) f
+      ∙ ap (λ (l : List ℕ). put l (blockBytes * k) b) q
       ∙ ap (λ (i : ℕ). put (put out₀ 0 r) i b) n
       ∙ put-next out₀ 0 r b
       ∙ ap (put out₀ 0) more
 
 -- ---- putting bytes
 
-pub put-start : (is m bs : List ℕ) → putPlaces (drop 0 is) m (drop (512 * 0) bs) ≡ putPlaces is m bs
+pub put-start : (is m bs : List ℕ) → putPlaces (drop 0 is) m (drop (blockBytes * 0) bs) ≡ putPlaces is m bs
 put-start is m bs = refl
 
 module _ (is m bs : List ℕ) (k : ℕ) where
   pub put-turn : k < length is
-      → putPlaces (drop k is) m (drop (512 * k) bs)
-      ≡ putPlaces (drop (k + 1) is) (put m (512 * getD is k 0) (part bs (512 * k) 512)) (drop (512 * (k + 1)) bs)
+      → putPlaces (drop k is) m (drop (blockBytes * k) bs)
+      ≡ putPlaces (drop (k + 1) is) (put m (blockBytes * getD is k 0) (part bs (blockBytes * k) blockBytes)) (drop (blockBytes * (k + 1)) bs)
   unfolding putPlaces part
   put-turn h =
-      let q : 512 * k + 512 ≡ 512 * (k + 1) = omega arith in
-      let m′ = put m (512 * getD is k 0) (take 512 (drop (512 * k) bs)) in
-      ap (λ (l : List ℕ). putPlaces l m (drop (512 * k) bs)) (drop-cons is k 0 h)
-      ∙ ap (putPlaces (drop (suc k) is) m′) (drop-drop 512 (512 * k) bs ∙ ap (λ (n : ℕ). drop n bs) q)
-      ∙ ap (λ (n : ℕ). putPlaces (drop n is) m′ (drop (512 * (k + 1)) bs)) (sym (add-one k))
+      let q : blockBytes * k + blockBytes ≡ blockBytes * (k + 1) = omega arith in
+      let m′ = put m (blockBytes * getD is k 0) (take blockBytes (drop (blockBytes * k) bs)) in
+      ap (λ (l : List ℕ). putPlaces l m (drop (blockBytes * k) bs)) (drop-cons is k 0 h)
+      ∙ ap (putPlaces (drop (suc k) is) m′) (drop-drop blockBytes (blockBytes * k) bs ∙ ap (λ (n : ℕ). drop n bs) q)
+      ∙ ap (λ (n : ℕ). putPlaces (drop n is) m′ (drop (blockBytes * (k + 1)) bs)) (sym (add-one k))
 
-  pub put-end : length is ≤ k → putPlaces (drop k is) m (drop (512 * k) bs) ≡ m
+  pub put-end : length is ≤ k → putPlaces (drop k is) m (drop (blockBytes * k) bs) ≡ m
   unfolding putPlaces
-  put-end h = ap (λ (l : List ℕ). putPlaces l m (drop (512 * k) bs)) (drop-of-length-le is h)
+  put-end h = ap (λ (l : List ℕ). putPlaces l m (drop (blockBytes * k) bs)) (drop-of-length-le is h)
 
-pub putPlaces-is : (o : List ℕ) (a w n : ℕ) (m bs : List ℕ) → n ≤ w → putPlaces (take n (places o a w)) m bs ≡ putBlocks o m a n bs
+pub putPlaces-is : (o : List ℕ) (a n : ℕ) (m bs : List ℕ) → putPlaces (places o a n) m bs ≡ putBlocks o m a n bs
 unfolding putPlaces putBlocks places
-putPlaces-is o a w zero m bs h = refl
-putPlaces-is o a zero (suc n) m bs h = absurd (omega arith)
-putPlaces-is o a (suc w) (suc n) m bs h =
-    putPlaces-is o (suc a) w n (put m (512 * place (suc a) o) (take 512 bs)) (drop 512 bs) (omega arith)
+putPlaces-is o a zero m bs = refl
+putPlaces-is o a (suc n) m bs = putPlaces-is o (suc a) n (put m (blockBytes * place (suc a) o) (take blockBytes bs)) (drop blockBytes bs)
 
 -- ---- giving slots
 
@@ -168,20 +166,20 @@ free-rises x (y ∷ ys) d =
 -- what holds of the owners o, their index and the cursor after the first k blocks have their slots
 pub record Given (o₀ : List ℕ) (a count : ℕ) (o index : List ℕ) (cursor k : ℕ) : Type 0 where
   pub same : length o ≡ length o₀
-  pub indexed : index ≡ places o a 128
+  pub indexed : Indexed o a count index
   pub rest : assignBlocks o (a + k) (count - k) ≡ assignBlocks o₀ a count
   pub room : unmapped o (a + k) (count - k) ≤ free o
   pub low : cursor ≤ place 0 o
 
-pub give-start : (o index : List ℕ) (a count : ℕ) → index ≡ places o a 128 → unmapped o a count ≤ free o → Given o a count o index 0 0
+pub give-start : (o index : List ℕ) (a count : ℕ) → Indexed o a count index → unmapped o a count ≤ free o → Given o a count o index 0 0
 give-start o index a count e h =
     let z : count - 0 ≡ count = omega arith in
     record { same = refl; indexed = e; rest = rw (add-zero a, z); room = rw (add-zero a, z) h; low = omega arith }
 
 module _ (o₀ : List ℕ) (a count : ℕ) (o index : List ℕ) (cursor k : ℕ)
-    (g : Given o₀ a count o index cursor k) (h : k < count) (w : count ≤ 128) where
+    (g : Given o₀ a count o index cursor k) (h : k < count) where
   here : getD index k 0 ≡ place (suc (a + k)) o
-  here = ap (λ (l : List ℕ). getD l k 0) (g .indexed) ∙ places-at o a 128 k (omega arith)
+  here = index-at o index a count k (g .indexed) h
 
   left : count - k ≡ suc (count - (k + 1))
   left = omega arith
@@ -192,7 +190,7 @@ module _ (o₀ : List ℕ) (a count : ℕ) (o index : List ℕ) (cursor k : ℕ)
   room-now : unmapped o (a + k) (suc (count - (k + 1))) ≤ free o
   room-now = rw (← left) (g .room)
 
-  give-next : (o′ index′ : List ℕ) (cursor′ : ℕ) → o′ ≡ assign o (a + k) → index′ ≡ places o′ a 128 → cursor′ ≤ place 0 o′
+  give-next : (o′ index′ : List ℕ) (cursor′ : ℕ) → o′ ≡ assign o (a + k) → Indexed o′ a count index′ → cursor′ ≤ place 0 o′
       → Given o₀ a count o′ index′ cursor′ (k + 1)
   give-next o′ index′ cursor′ e f l = record {
     same = ap length e ∙ length-assign o (a + k) ∙ g .same;
@@ -225,9 +223,11 @@ module _ (o₀ : List ℕ) (a count : ℕ) (o index : List ℕ) (cursor k : ℕ)
     give-one r e =
         let z : suc (a + k) ≢ 0 = λ q. omega arith in
         let f : set o r (a + k + 1) ≡ fill (suc (a + k)) o = rw (e, add-one (a + k)) (sym (fill-set (suc (a + k)) o)) in
-        let i : set index k r ≡ places (fill (suc (a + k)) o) a 128 =
-        rw (e, g .indexed) (sym (places-fill o a 128 k (omega arith) has-not)) in
-        give-next _ _ r (f ∙ sym (assign-new o (a + k) has-not)) (rw f i) (rw (f, e) (free-rises (suc (a + k)) o z))
+        let i : take count (set index k r) ≡ places (set o r (a + k + 1)) a count =
+        take-set-lt count index k r h
+        ∙ rw (f, e, g .indexed .each) (sym (places-fill o a count k h has-not)) in
+        give-next _ _ r (f ∙ sym (assign-new o (a + k) has-not)) (record { size = length-set index k r ∙ g .indexed .size; each = i })
+        (rw (f, e) (free-rises (suc (a + k)) o z))
 
 pub give-done : (o₀ : List ℕ) (a count : ℕ) (o index : List ℕ) (cursor k : ℕ) → Given o₀ a count o index cursor k → count ≡ k
     → o ≡ assignBlocks o₀ a count
@@ -237,10 +237,10 @@ give-done o₀ a count o index cursor k g e =
     sym (ap (assignBlocks o (a + k)) z) ∙ g .rest
 
 -- where there is room every block of the range has a slot
-pub given-below : (o : List ℕ) (a n k : ℕ) → unmapped o a n ≤ free o → k < n → n ≤ 128
-    → getD (places (assignBlocks o a n) a 128) k 0 < length o
+pub given-below : (o index : List ℕ) (a n k : ℕ) → unmapped o a n ≤ free o → Indexed (assignBlocks o a n) a n index → k < n
+    → getD index k 0 < length o
 unfolding mapped
-given-below o a n k room h w =
+given-below o index a n k room x h =
     let q = assignBlocks o a n in
     let b = place-below (suc (a + k)) q (true→T (has (suc (a + k)) q) (mapped-write-in o a n room k h)) in
-    rw (places-at q a 128 k (omega arith), ← length-assignBlocks o a n) b
+    rw (index-at q index a n k x h, ← length-assignBlocks o a n) b

@@ -10,12 +10,13 @@ use native.Mathlib.Nat.{add-zero}
 use native.Mathlib.Numerals.{add-one}
 use lib.Dec.{T, eqb}
 use lib.ListN.{length, getD, take, drop, set, replicate, drop-of-length-le}
-use lib.Seq.{drop-cons}
+use lib.Seq.{drop-cons, drop-length, take-set-lt, getD-take}
 use borrow.Author.Tests.{eq-eqb, ne-eqb}
 use Rattle.fields.proofs.Tests.{test, T-true, T-false}
-use Rattle.map.specs.Pool.{place, has, mapped, unmapped, fill}
-use Rattle.map.specs.Index.{places, missing}
-use Rattle.map.proofs.Held.{place-below, place-none, place-fill, place-fill-other}
+use Rattle.pool.specs.Bounds.{mostTransfer}
+use Rattle.pool.specs.Pool.{place, has, mapped, unmapped, fill}
+use Rattle.map.specs.Index.{places, Indexed, missing}
+use Rattle.pool.proofs.Held.{place-below, place-none, place-fill, place-fill-other}
 
 -- ---- the places of a range
 
@@ -34,17 +35,26 @@ places-at o a (suc n) (suc k) h =
 -- ---- the places from slot i on
 
 -- with no slot left every place is i
-pub from-none : (i a n : ℕ) → map (λ (p : ℕ). i + p) (places [] a n) ≡ replicate n i
+from-none : (i a n : ℕ) → map (λ (p : ℕ). i + p) (places [] a n) ≡ replicate n i
 unfolding places place
 from-none i a zero = refl
 from-none i a (suc n) = rw (add-zero i, from-none i (suc a) n)
 
-pub from-all : (l : List ℕ) → map (λ (p : ℕ). 0 + p) l ≡ l
+from-all : (l : List ℕ) → map (λ (p : ℕ). 0 + p) l ≡ l
 from-all [] = refl
 from-all (x ∷ xs) = let e : 0 + x ≡ x = omega arith in rw (e, from-all xs)
 
+take-same : (m n x : ℕ) → m ≤ n → take m (replicate n x) ≡ replicate m x
+take-same zero n x h = refl
+take-same (suc m) zero x h = absurd (omega arith)
+take-same (suc m) (suc n) x h = rw (take-same m n x (omega arith))
+
+pub index-start : (o : List ℕ) (a n w : ℕ) → n ≤ w
+    → take n (replicate w (length o)) ≡ map (λ (p : ℕ). length o + p) (places (drop (length o) o) a n)
+index-start o a n w h = take-same n w (length o) h ∙ sym (rw (drop-length o) (from-none (length o) a n))
+
 -- a slot that names no block of the range
-pub from-out : (i y : ℕ) (ys : List ℕ) (a n : ℕ) → (a < y → a + n < y)
+from-out : (i y : ℕ) (ys : List ℕ) (a n : ℕ) → (a < y → a + n < y)
     → map (λ (p : ℕ). i + p) (places (y ∷ ys) a n) ≡ map (λ (p : ℕ). suc i + p) (places ys a n)
 unfolding places place
 from-out i y ys a zero h = refl
@@ -55,7 +65,7 @@ from-out i y ys a (suc n) h =
     rw (ne-eqb y (suc a) d, e, from-out i y ys (suc a) n r)
 
 -- a slot that names block k of the range
-pub from-in : (i : ℕ) (ys : List ℕ) (a n k : ℕ) → k < n
+from-in : (i : ℕ) (ys : List ℕ) (a n k : ℕ) → k < n
     → map (λ (p : ℕ). i + p) (places (suc (a + k) ∷ ys) a n) ≡ set (map (λ (p : ℕ). suc i + p) (places ys a n)) k i
 unfolding places place
 from-in i ys a zero k h = absurd (omega arith)
@@ -72,22 +82,33 @@ from-in i ys a (suc n) (suc k) h =
 
 -- a turn of the pass over the slots, from i down
 module _ (o index : List ℕ) (i a n : ℕ) (h : 0 < i) (b : i ≤ length o)
-    (e : index ≡ map (λ (p : ℕ). i + p) (places (drop i o) a n)) where
-  down : index ≡ map (λ (p : ℕ). suc (i - 1) + p) (places (drop (suc (i - 1)) o) a n)
+    (e : take n index ≡ map (λ (p : ℕ). i + p) (places (drop i o) a n)) where
+  down : take n index ≡ map (λ (p : ℕ). suc (i - 1) + p) (places (drop (suc (i - 1)) o) a n)
   down =
       let q : i ≡ suc (i - 1) = omega arith in
       e ∙ ap (λ (k : ℕ). map (λ (p : ℕ). k + p) (places (drop k o) a n)) q
 
-  pub index-out : (a < getD o (i - 1) 0 → a + n < getD o (i - 1) 0) → index ≡ map (λ (p : ℕ). i - 1 + p) (places (drop (i - 1) o) a n)
+  pub index-out : (a < getD o (i - 1) 0 → a + n < getD o (i - 1) 0) → take n index ≡ map (λ (p : ℕ). i - 1 + p) (places (drop (i - 1) o) a n)
   index-out r =
       let q : i - 1 < length o = omega arith in
       down ∙ sym (rw (drop-cons o (i - 1) 0 q) (from-out (i - 1) (getD o (i - 1) 0) (drop (suc (i - 1)) o) a n r))
 
-  pub index-in : (k : ℕ) → k < n → getD o (i - 1) 0 ≡ suc (a + k) → set index k (i - 1) ≡ map (λ (p : ℕ). i - 1 + p) (places (drop (i - 1) o) a n)
+  pub index-in : (k : ℕ) → k < n → getD o (i - 1) 0 ≡ suc (a + k)
+      → take n (set index k (i - 1)) ≡ map (λ (p : ℕ). i - 1 + p) (places (drop (i - 1) o) a n)
   index-in k m f =
       let q : i - 1 < length o = omega arith in
-      ap (λ (l : List ℕ). set l k (i - 1)) down
+      take-set-lt n index k (i - 1) m ∙ ap (λ (l : List ℕ). set l k (i - 1)) down
       ∙ sym (rw (drop-cons o (i - 1) 0 q, f) (from-in (i - 1) (drop (suc (i - 1)) o) a n k m))
+
+-- the pass is at its end
+pub index-end : (o index : List ℕ) (a n : ℕ) → length index ≡ mostTransfer → take n index ≡ map (λ (p : ℕ). 0 + p) (places (drop 0 o) a n)
+    → Indexed o a n index
+index-end o index a n w e = record { size = w; each = e ∙ from-all (places o a n) }
+
+-- what the index has of block k
+pub index-at : (o index : List ℕ) (a n k : ℕ) → Indexed o a n index → k < n → getD index k 0 ≡ place (suc (a + k)) o
+index-at o index a n k x h =
+    sym (getD-take n index k 0 h) ∙ ap (λ (l : List ℕ). getD l k 0) (x .each) ∙ places-at o a n k h
 
 -- ---- counting what has no place
 
@@ -110,17 +131,14 @@ none-is o x =
     (λ t. let h = place-below x o t in rw (T-true (has x o) t, ne-eqb (place x o) (length o) (λ e. omega arith)))
     (λ t. rw (T-false (has x o) t, eq-eqb (place x o) (length o) (place-none x o t)))
 
-missing-places : (o : List ℕ) (a m n : ℕ) → n ≤ m → missing (length o) (take n (places o a m)) ≡ unmapped o a n
+missing-places : (o : List ℕ) (a n : ℕ) → missing (length o) (places o a n) ≡ unmapped o a n
 unfolding places missing unmapped mapped
-missing-places o a m zero h = refl
-missing-places o a zero (suc n) h = absurd (omega arith)
-missing-places o a (suc m) (suc n) h = rw (none-is o (suc a), missing-places o (suc a) m n (omega arith))
+missing-places o a zero = refl
+missing-places o a (suc n) = rw (none-is o (suc a), missing-places o (suc a) n)
 
 -- what is missing in the index of a range
-pub missing-is : (o index : List ℕ) (a n m : ℕ) → index ≡ places o a 128 → n ≤ 128 → m ≡ missing (length o) (take n index)
-    → m ≡ unmapped o a n
-missing-is o index a n m e h q =
-    q ∙ ap (λ (is : List ℕ). missing (length o) (take n is)) e ∙ missing-places o a 128 n h
+pub missing-is : (o index : List ℕ) (a n m : ℕ) → Indexed o a n index → m ≡ missing (length o) (take n index) → m ≡ unmapped o a n
+missing-is o index a n m x q = q ∙ ap (missing (length o)) (x .each) ∙ missing-places o a n
 
 -- ---- a free slot is given to block b
 

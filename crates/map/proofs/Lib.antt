@@ -1,11 +1,4 @@
-pub mod Held
-pub mod Keeping
-pub mod Writing
-pub mod Unmapping
-pub mod Reading
-pub mod Clashes
-pub mod Alike
 pub mod Turns
 pub mod Indexing
 pub mod Blocks
-pub mod Answering
+pub mod Trying

@@ -1,6 +1,2 @@
-pub mod Pool
-pub mod Valid
-pub mod Find
 pub mod Index
 pub mod Write
-pub mod Product

@@ -3,15 +3,7 @@
 use mathlib.Core.Bool.{Bool, cond}
 use mathlib.Core.List.{List}
 use Prim.Native.Nat.{ℕ}
-use lib.Dec.{leb}
-use Rattle.map.specs.Pool.{Pool, free, unmapped, writeBlocks}
-
-abbrev pub pool : List ℕ → List ℕ → Pool
-pool owners medium = record { owners = owners; medium = medium }
-
--- are there free slots for all unmapped addresses of the range
-unfoldable pub roomFor : List ℕ → ℕ → ℕ → Bool
-roomFor owners a n = leb (unmapped owners a n) (free owners)
+use Rattle.pool.specs.Pool.{Pool, pool, roomFor, writeBlocks}
 
 -- whether a write was done, and the pool after it
 pub record Written : Type 0 where
@@ -21,6 +13,7 @@ pub record Written : Type 0 where
 abbrev pub written : Bool → List ℕ → List ℕ → Written
 written done owners medium = record { done = done; after = pool owners medium }
 
+-- done where there is room; where not, nothing changes
 unfoldable pub tryWrite : Pool → ℕ → ℕ → List ℕ → Written
 tryWrite p a n bs =
     record { done = roomFor (p .owners) a n; after = cond (roomFor (p .owners) a n) (writeBlocks p a n bs) p }

@@ -1,20 +1,22 @@
-// The index of a range: the slot of each of 128 addresses, from one pass over the slots.
+// The index of a range: the slot of each of its addresses, from one pass over the slots. It is kept and lent as plain numbers, since no
+// part of an array of structs can be lent to a function that is proved without a walk by hand.
 ghost use mathlib.Core.Path.{_≡_};
-ghost use Prim.Native.Nat.{_+_, _≤_, _^_};
+ghost use Prim.Native.Nat.{_+_, _≤_};
 ghost use lib.ListN.{length, take};
-ghost use Rattle.map.specs.Pool.{unmapped};
-ghost use Rattle.map.specs.Index.{places, missing};
-use crate::Lba;
+ghost use Rattle.pool.specs.Bounds.{mostBlocks, mostTransfer};
+ghost use Rattle.map.specs.Index.{Indexed, missing};
+use pool::Lba;
+use pool::MOST_TRANSFER;
 
 // From the highest slot to the lowest, so that the lowest that names a block stays; no slot: as many as there are.
-pub fn index_of(owners: &[u64], lba: Lba) -> [usize; 128]
-    requires { ⌜ lba .0 ≤ 2 ^ 40 ⌝ }
-    ensures { λ r. ⌜ r ≡ places (now (owners .entry)) (lba .0) 128 ⌝ }
+pub fn index_of(owners: &[u64], lba: Lba, count: usize) -> [usize; MOST_TRANSFER]
+    requires { ⌜ (count ≤ mostTransfer) × (lba .0 + count ≤ mostBlocks) ⌝ }
+    ensures { λ r. ⌜ Indexed (now (owners .entry)) (lba .0) count r ⌝ }
 {
     let a = lba.0;
-    let end = a + 128;
+    let end = a + count as u64;
     let n = owners.len();
-    let mut index = [n; 128];
+    let mut index = [n; MOST_TRANSFER];
     let mut i = n;
     while i > 0 {
         i -= 1;
@@ -42,13 +44,4 @@ pub fn missing_in(index: &[usize], slots: usize, count: usize) -> usize
         }
     }
     n
-}
-
-// How many blocks of a range are unmapped. The bounds are those of the index.
-pub fn unmapped_in(owners: &[u64], lba: Lba, count: usize) -> usize
-    requires { ⌜ (count ≤ 128) × (lba .0 + count ≤ 2 ^ 40) ⌝ }
-    ensures { λ r. ⌜ r ≡ unmapped (now (owners .entry)) (lba .0) count ⌝ }
-{
-    let index = index_of(owners, lba);
-    missing_in(&index, owners.len(), count)
 }

@@ -1,12 +1,13 @@
 // Unmapping: by slots, never by blocks, since a range may have 2^32 - 1 of those.
 ghost use mathlib.Core.Path.{_≡_};
-ghost use Prim.Native.Nat.{_+_, _≤_, _^_};
-ghost use Rattle.map.specs.Pool.{freed, unmapOwners};
-use crate::Lba;
+ghost use Prim.Native.Nat.{_+_, _≤_};
+ghost use Rattle.pool.specs.Bounds.{mostBlocks};
+ghost use Rattle.pool.specs.Pool.{freed, unmapOwners};
+use pool::Lba;
 
 // The owner number of a slot once the range is unmapped.
 fn kept(x: u64, lba: Lba, count: u64) -> u64
-    requires { ⌜ lba .0 + count ≤ 2 ^ 40 ⌝ }
+    requires { ⌜ lba .0 + count ≤ mostBlocks ⌝ }
     ensures { λ r. ⌜ r ≡ freed (lba .0) count x ⌝ }
 {
     let a = lba.0;
@@ -19,7 +20,7 @@ fn kept(x: u64, lba: Lba, count: u64) -> u64
 
 // The slots of the range are freed; their bytes stay. The bound keeps the range's end from wrapping.
 pub fn unmap_blocks(owners: &mut [u64], lba: Lba, count: u64)
-    requires { ⌜ lba .0 + count ≤ 2 ^ 40 ⌝ }
+    requires { ⌜ lba .0 + count ≤ mostBlocks ⌝ }
     ensures { λ _. ⌜ now (owners .exit) ≡ unmapOwners (now (owners .entry)) (lba .0) count ⌝ }
 {
     for i in 0..owners.len() {

@@ -2,7 +2,7 @@
 -- Assumes nothing.
 use mathlib.Core.List.{List, []}
 use Prim.Native.Nat.{ℕ}
-use Rattle.map.specs.Write.{pool}
+use Rattle.pool.specs.Pool.{pool}
 use Rattle.store.specs.declared.Unit.{Unit}
 use Rattle.store.specs.Store.{Store, Call, Result}
 use Rattle.store.specs.Fresh.{FreshResult}

@@ -2,11 +2,12 @@
 -- Assumes nothing.
 use mathlib.Core.Path.{_≡_}
 use mathlib.Core.List.{List}
-use Prim.Native.Nat.{ℕ, _*_, _^_, _≤_}
+use Prim.Native.Nat.{ℕ, _*_, _≤_}
 use lib.ListN.{length}
 use Rattle.fields.specs.Bytes.{put}
 use Rattle.answers.specs.declared.Answer.{Answer}
 use Rattle.answers.specs.Order.{ifGood}
+use Rattle.pool.specs.Bounds.{mostBlocks, mostSlots, blockBytes}
 use Rattle.store.specs.Store.{Store}
 use Rattle.reply.specs.declared.Reply.{Reply}
 use Rattle.reply.specs.declared.Outcome.{Outcome}
@@ -16,9 +17,9 @@ use Rattle.reply.specs.Contract.{storeOf}
 
 pub record Bounded (capacity : ℕ) (owners medium : List ℕ) : Type 0 where
   pub some : 1 ≤ capacity
-  pub few : capacity ≤ 2 ^ 40
-  pub slots : length owners ≤ 128
-  pub whole : length medium ≡ 512 * length owners
+  pub few : capacity ≤ mostBlocks
+  pub slots : length owners ≤ mostSlots
+  pub whole : length medium ≡ blockBytes * length owners
 
 -- ---- a reply: the answer, how many bytes it returns, and data-in after it
 

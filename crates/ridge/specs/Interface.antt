@@ -7,7 +7,7 @@ use lib.Dec.{eqb}
 use lib.ListN.{length}
 use Rattle.answers.specs.Answers.{numberOf}
 use Rattle.answers.specs.Order.{ifGood}
-use Rattle.map.specs.Pool.{Pool}
+use Rattle.pool.specs.Pool.{Pool}
 use Rattle.store.specs.declared.Unit.{Unit}
 use Rattle.store.specs.Store.{Store, Call, Seen, Result}
 use Rattle.store.specs.Step.{step}

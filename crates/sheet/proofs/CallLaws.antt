@@ -14,7 +14,7 @@ use Rattle.fields.specs.Bytes.{part, put, zeros}
 use Rattle.fields.proofs.BytesLaws.{zeros-replicate, put-next, put-none}
 use Rattle.answers.specs.declared.Answer.the-variants.{Good}
 use Rattle.answers.specs.Order.{first, ifGood, firstOf, ifGoodBy, refuses}
-use Rattle.map.specs.Valid.{capacityOk, slotsOk}
+use Rattle.pool.specs.Valid.{capacityOk, slotsOk}
 use Rattle.store.specs.declared.Unit.{Unit}
 use Rattle.store.specs.Store.{Store, Call, Seen, Result}
 use Rattle.store.specs.Step.{step}

@@ -14,7 +14,7 @@ use Rattle.answers.specs.declared.Answer.{Answer}
 use Rattle.answers.specs.declared.Answer.the-variants.{Good, Refused, Conflict, Unusable, Short}
 use Rattle.answers.specs.Order.{Row, _if_, first, ifGood, ifGoodBy, refuses, refusing, refusingBy}
 use Rattle.answers.proofs.OrderLaws.{row-fails, rows-after, first-append, next-second}
-use Rattle.map.specs.Pool.{Pool, mapped, place, readBlock, readBlocks}
+use Rattle.pool.specs.Pool.{Pool, mapped, place, readBlock, readBlocks}
 use Rattle.forms.specs.declared.Move.the-variants.{Read, Write, Unmap}
 use Rattle.forms.specs.declared.Command.{Command}
 use Rattle.forms.specs.declared.Command.the-variants.{Tells, Moves, Alters, Unknown, Unlisted}

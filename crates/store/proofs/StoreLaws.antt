@@ -5,7 +5,7 @@ use mathlib.Core.Bool.{true}
 use Rattle.answers.specs.declared.Answer.the-variants.{Conflict}
 use Rattle.answers.specs.Order.{first}
 use Rattle.answers.proofs.OrderLaws.{row-stop}
-use Rattle.map.specs.Pool.{Pool}
+use Rattle.pool.specs.Pool.{Pool}
 use Rattle.rights.specs.Conflict.{conflict}
 use Rattle.forms.specs.declared.Move.{Move}
 use Rattle.forms.specs.declared.Form.{Form}

@@ -8,7 +8,7 @@ use Rattle.fields.specs.Bytes.{zeros}
 use Rattle.answers.specs.declared.Answer.{Answer}
 use Rattle.answers.specs.declared.Answer.the-variants.{Unusable}
 use Rattle.answers.specs.Order.{Row, _if_, first, ifGood}
-use Rattle.map.specs.Valid.{capacityOk, slotsOk}
+use Rattle.pool.specs.Valid.{capacityOk, slotsOk}
 use Rattle.rights.specs.Rights.{noRights}
 use Rattle.store.specs.declared.Unit.{Unit}
 use Rattle.store.specs.Store.{Store}

@@ -8,8 +8,8 @@ use lib.ListN.{length}
 use Rattle.answers.specs.declared.Answer.the-variants.{Conflict, Short}
 use Rattle.answers.specs.Answers.{outOfRange, listLength, listField, noRoom}
 use Rattle.answers.specs.Order.{Row, _if_}
-use Rattle.map.specs.Pool.{Pool, readBlocks, writeBlocks}
-use Rattle.map.specs.Write.{roomFor}
+use Rattle.pool.specs.Bounds.{blockBytes}
+use Rattle.pool.specs.Pool.{Pool, readBlocks, writeBlocks, roomFor}
 use Rattle.descriptors.specs.Descriptors.{considered, someFails, unmapAll}
 use Rattle.rights.specs.declared.Access.{Access}
 use Rattle.rights.specs.declared.Access.the-variants.{Reads, Writes}
@@ -36,11 +36,11 @@ pastEnd f capacity cdb = ltb capacity (addressOf f cdb + countOf f cdb)
 unfoldable pub rangeRows : Form → Move → ℕ → Pool → Call → List Row
 rangeRows f Read capacity p c =
     outOfRange if pastEnd f capacity (c .cdb)
-    ∷ Short if ltb (length (c .dataIn)) (512 * countOf f (c .cdb))
+    ∷ Short if ltb (length (c .dataIn)) (blockBytes * countOf f (c .cdb))
     ∷ []
 rangeRows f Write capacity p c =
     outOfRange if pastEnd f capacity (c .cdb)
-    ∷ Short if ltb (length (c .dataOut)) (512 * countOf f (c .cdb))
+    ∷ Short if ltb (length (c .dataOut)) (blockBytes * countOf f (c .cdb))
     ∷ noRoom if not (roomFor (p .owners) (addressOf f (c .cdb)) (countOf f (c .cdb)))
     ∷ []
 rangeRows f Unmap capacity p c =

@@ -7,6 +7,7 @@ use lib.Dec.{eqb, ltb}
 use lib.ListN.{length}
 use Rattle.answers.specs.declared.Answer.{Answer}
 use Rattle.answers.specs.declared.Answer.the-variants.{Unusable}
+use Rattle.answers.specs.Answers.{senseBytes}
 use Rattle.answers.specs.Order.{Row, _if_, first, ifGood}
 use Rattle.rights.specs.Bounds.{lastNexus}
 use Rattle.rights.specs.Actions.{acted}
@@ -26,7 +27,7 @@ unfoldable pub callRows : Call → List Row
 callRows c =
     Unusable if ltb lastNexus (c .nexus)
     ∷ Unusable if eqb (length (c .cdb)) 0
-    ∷ Unusable if ltb (length (c .sense)) 18
+    ∷ Unusable if ltb (length (c .sense)) senseBytes
     ∷ []
 
 -- "slots or capacity out of bounds, medium not 512 x slots bytes, invalid state"

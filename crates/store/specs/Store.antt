@@ -8,8 +8,8 @@ use Rattle.fields.specs.Bytes.{put}
 use Rattle.answers.specs.declared.Answer.{Answer}
 use Rattle.answers.specs.Answers.{senseAfter}
 use Rattle.answers.specs.Order.{ifGood}
-use Rattle.map.specs.Pool.{Pool}
-use Rattle.map.specs.Valid.{capacityOk, poolOk}
+use Rattle.pool.specs.Pool.{Pool}
+use Rattle.pool.specs.Valid.{capacityOk, poolOk}
 use Rattle.rights.specs.Rights.{rightsOk}
 use Rattle.store.specs.declared.Unit.{Unit}
 

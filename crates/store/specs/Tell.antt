@@ -9,6 +9,7 @@ use Rattle.fields.specs.Bytes.{zeros}
 use Rattle.fields.specs.Field.{bytes}
 use Rattle.answers.specs.declared.Answer.the-variants.{Short}
 use Rattle.answers.specs.Order.{Row, _if_}
+use Rattle.pool.specs.Bounds.{blockBytes}
 use Rattle.rights.specs.Told.{keysData, reservationData}
 use Rattle.forms.specs.declared.Tell.{Tell}
 use Rattle.forms.specs.declared.Tell.the-variants.{Ready, Inquiry, Capacity10, Capacity16, Keys, Reservation}
@@ -27,11 +28,11 @@ inquiryData =
 
 -- "bytes 0-3 the last address, or FFFF_FFFFh if it is larger; 4-7 are 512"
 unfoldable pub capacity10Data : ℕ → List ℕ
-capacity10Data capacity = bytes 4 (min (capacity - 1) 0xFFFF_FFFF) ++ bytes 4 512
+capacity10Data capacity = bytes 4 (min (capacity - 1) 0xFFFF_FFFF) ++ bytes 4 blockBytes
 
 -- "32 bytes: last address 0-7, 512 in 8-11, byte 14 C0h, others 0"
 unfoldable pub capacity16Data : ℕ → List ℕ
-capacity16Data capacity = bytes 8 (capacity - 1) ++ (bytes 4 512 ++ (zeros 2 ++ (0xC0 ∷ zeros 17)))
+capacity16Data capacity = bytes 8 (capacity - 1) ++ (bytes 4 blockBytes ++ (zeros 2 ++ (0xC0 ∷ zeros 17)))
 
 -- all that is there to be told
 unfoldable pub available : Tell → Unit → List ℕ

@@ -1,6 +1,6 @@
 -- `commands::ready::capacity_ok` meets its contract. Assumes nothing.
 use borrow.Author.Tests.{lt-leb, le-leb}
-use Rattle.map.specs.Valid.{capacityOk}
+use Rattle.pool.specs.Valid.{capacityOk}
 use Rattle.commands.proofs.ready.capacity_ok.Statement.{statement}
 use Rattle.commands.proofs.ready.capacity_ok.Tie as tie
 

@@ -1,6 +1,6 @@
 -- `commands::ready::slots_ok` meets its contract. Assumes nothing.
 use borrow.Author.Tests.{lt-leb, le-leb}
-use Rattle.map.specs.Valid.{slotsOk}
+use Rattle.pool.specs.Valid.{slotsOk}
 use Rattle.commands.proofs.ready.slots_ok.Statement.{statement}
 use Rattle.commands.proofs.ready.slots_ok.Tie as tie
 

@@ -4,19 +4,19 @@ use mathlib.Core.Path.{_≡_, _∙_, sym, refl}
 use mathlib.Core.List.{map}
 use Prim.Native.Nat.{_≤_, _-_, _+_}
 use native.Mathlib.Omega.{arith}
-use lib.ListN.{length, drop, getD}
-use lib.Seq.{drop-length}
+use lib.ListN.{length, take, drop, getD, length-set, length-replicate}
 use borrow.Author.Needs.{needs}
+use Rattle.pool.specs.Bounds.{mostTransfer}
 use Rattle.map.specs.Index.{places}
-use Rattle.map.proofs.Indexing.{from-none, from-all, index-out, index-in}
+use Rattle.map.proofs.Indexing.{index-start, index-out, index-in, index-end}
 use Rattle.map.proofs.index.index_of.Statement.{statement}
 use Rattle.map.proofs.index.index_of.Tie as tie
 
 abbrev Inv-loop : tie.InvT-loop
-Inv-loop owners a end n index₀ i₀ index i = (i ≤ n) × (n ≡ length owners) × (index ≡ map (λ p. i + p) (places (drop i owners) a 128))
+Inv-loop owners count a end n index₀ i₀ index i = (i ≤ n) × (n ≡ length owners) × (length index ≡ mostTransfer) × (take count index ≡ map (λ p. i + p) (places (drop i owners) a count))
 
 abbrev μ-loop : tie.MeasureT-loop
-μ-loop owners a end n index₀ i₀ index i = i
+μ-loop owners count a end n index₀ i₀ index i = i
 
 add-end : tie.Need-add-end Inv-loop μ-loop
 add-end c = search needs
@@ -24,7 +24,7 @@ add-end c = search needs
 loop-holds : tie.Need-loop-holds Inv-loop μ-loop
 loop-holds c =
     let xs = c .args .owners .now in
-    (search needs, refl, sym (rw (drop-length xs) (from-none (length xs) (c .args .lba .0) 128)))
+    (search needs, refl, length-replicate mostTransfer (length xs), index-start xs (c .args .lba .0) (c .args .count) mostTransfer (c .pre .0))
 
 sub-i : tie.Need-sub-i Inv-loop μ-loop
 sub-i c = search needs
@@ -41,7 +41,7 @@ loop-less c = search needs
 loop-again : tie.Need-loop-again Inv-loop μ-loop
 loop-again c =
     let l = c .before .before .before in
-    (search needs, l .loop .inv .1, index-out (l .before .args .owners .now) (l .loop .index) (l .loop .i) (l .before .args .lba .0) 128 (omega arith) (omega arith) (l .loop .inv .2) (λ h. absurd (omega arith)))
+    (search needs, l .loop .inv .1, l .loop .inv .2, index-out (l .before .args .owners .now) (l .loop .index) (l .loop .i) (l .before .args .lba .0) (l .before .args .count) (omega arith) (omega arith) (l .loop .inv .3) (λ h. absurd (omega arith)))
 
 sub-k : tie.Need-sub-k Inv-loop μ-loop
 sub-k c = search needs
@@ -62,7 +62,7 @@ loop-again-2 : tie.Need-loop-again-2 Inv-loop μ-loop
 loop-again-2 c =
     let l = c .before .before .before .before in
     let x = getD (l .before .args .owners .now) (l .loop .i - 1) 0 in
-    (search needs, l .loop .inv .1, index-in (l .before .args .owners .now) _ (l .loop .i) (l .before .args .lba .0) 128 (omega arith) (omega arith) (l .loop .inv .2) (x - l .before .args .lba .0 - 1) (omega arith) (omega arith))
+    (search needs, l .loop .inv .1, simp length-set (l .loop .inv .2), index-in (l .before .args .owners .now) (l .loop .index) (l .loop .i) (l .before .args .lba .0) (l .before .args .count) (omega arith) (omega arith) (l .loop .inv .3) (x - l .before .args .lba .0 - 1) (omega arith) (omega arith))
 
 loop-less-3 : tie.Need-loop-less-3 Inv-loop μ-loop
 loop-less-3 c = search needs
@@ -70,13 +70,13 @@ loop-less-3 c = search needs
 loop-again-3 : tie.Need-loop-again-3 Inv-loop μ-loop
 loop-again-3 c =
     let l = c .before .before .before .before in
-    (search needs, l .loop .inv .1, index-out (l .before .args .owners .now) (l .loop .index) (l .loop .i) (l .before .args .lba .0) 128 (omega arith) (omega arith) (l .loop .inv .2) (λ h. omega arith))
+    (search needs, l .loop .inv .1, l .loop .inv .2, index-out (l .before .args .owners .now) (l .loop .index) (l .loop .i) (l .before .args .lba .0) (l .before .args .count) (omega arith) (omega arith) (l .loop .inv .3) (λ h. omega arith))
 
 returns : tie.Need-returns Inv-loop μ-loop
 returns c =
     let l = c .before in
     let e : l .loop .i ≡ 0 = omega arith in
-    l .loop .inv .2 ∙ rw e (from-all _)
+    index-end _ _ _ _ (l .loop .inv .2) (rw e at (l .loop .inv .3))
 
 pub index-of-spec : {M : Type 1} → statement M
 index-of-spec =

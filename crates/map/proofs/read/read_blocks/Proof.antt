@@ -7,8 +7,8 @@ use native.Mathlib.Omega.{arith}
 use lib.ListN.{length, take}
 use borrow.Author.Needs.{needs}
 use Rattle.fields.specs.Bytes.{put}
+use Rattle.pool.specs.Bounds.{mostTransfer}
 use Rattle.map.specs.Index.{places, readPlaces}
-use Rattle.map.proofs.Indexing.{length-places}
 use Rattle.map.proofs.Blocks.{read-start, read-turn, readPlaces-is}
 use Rattle.map.proofs.read.read_blocks.Statement.{statement}
 use Rattle.map.proofs.read.read_blocks.Tie as tie
@@ -61,7 +61,7 @@ loop-again c =
     let c₁₀ = c₆ .before .before .before .before in
     let a = c₁₀ .args in
     let l = c .before .before .before .before .before .loop in
-    let n : length (c₆ .index-of .result) ≡ 128 = ap length (c₆ .index-of .ensures) ∙ length-places (a .owners .now) (a .lba .0) 128 in
+    let n : length (c₆ .index-of .result) ≡ mostTransfer = c₆ .index-of .ensures .size in
     (search needs, c .before .out .given .1 ∙ l .inv .1, read-turn (a .medium .now) (length (a .owners .now)) (c₆ .index-of .result) (a .out .now) _ _ (l .k) (c₁₀ .pre .3) (omega arith) (omega arith) (l .inv .2) (c .before .before .read-slot .ensures))
 
 same-length : tie.Need-same-length Inv-loop μ-loop
@@ -73,9 +73,9 @@ returns c =
     let a = c₆ .args in
     let l = c .before .loop in
     let e : l .k ≡ a .count = omega arith in
-    let f : take (l .k) (c .before .before .index-of .result) ≡ take (a .count) (places (a .owners .now) (a .lba .0) 128) = rw (e, c .before .before .index-of .ensures) in
+    let f : take (l .k) (c .before .before .index-of .result) ≡ places (a .owners .now) (a .lba .0) (a .count) = rw e (c .before .before .index-of .ensures .each) in
     l .inv .2 ∙ ap (λ (is : List ℕ). put (a .out .now) 0 (readPlaces (a .medium .now) (length (a .owners .now)) is)) f
-    ∙ ap (put (a .out .now) 0) (readPlaces-is (a .owners .now) (a .medium .now) (a .lba .0) 128 (a .count) (c₆ .pre .0))
+    ∙ ap (put (a .out .now) 0) (readPlaces-is (a .owners .now) (a .medium .now) (a .lba .0) (a .count))
 
 pub read-blocks-spec : {M : Type 1} → statement M
 read-blocks-spec =

@@ -4,6 +4,7 @@ use mathlib.Core.Path.{_∙_, sym, ap}
 use Prim.Native.Nat.{_*_}
 use borrow.Author.Needs.{needs}
 use Rattle.fields.specs.Bytes.{zeros}
+use Rattle.pool.specs.Bounds.{blockBytes}
 use Rattle.map.proofs.Blocks.{part-is, bytes-at, bytes-none}
 use Rattle.map.proofs.read.read_slot.Statement.{statement}
 use Rattle.map.proofs.read.read_slot.Tie as tie
@@ -36,7 +37,7 @@ returns : tie.Need-returns
 returns c =
     let c₈ = c .before .before .before .before .before .before .before .before in
     let a = c₈ .args in
-    (c .before .before .copy .ensures) ∙ part-is (512 * a .slot .0) 512 (a .medium .now) ∙ sym (bytes-at _ _ _ (c .before .before .before .before .before .if1 .taken))
+    (c .before .before .copy .ensures) ∙ part-is (blockBytes * a .slot .0) blockBytes (a .medium .now) ∙ sym (bytes-at _ _ _ (c .before .before .before .before .before .if1 .taken))
 
 same-length-2 : tie.Need-same-length-2
 same-length-2 c = search needs

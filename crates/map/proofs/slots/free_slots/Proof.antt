@@ -7,7 +7,7 @@ use native.Mathlib.Omega.{arith}
 use native.Mathlib.Nat.{zero-add}
 use lib.ListN.{length, drop}
 use borrow.Author.Needs.{needs}
-use Rattle.map.specs.Pool.{free}
+use Rattle.pool.specs.Pool.{free}
 use Rattle.map.proofs.Turns.{free-hit, free-miss, free-end}
 use Rattle.map.proofs.slots.free_slots.Statement.{statement}
 use Rattle.map.proofs.slots.free_slots.Tie as tie

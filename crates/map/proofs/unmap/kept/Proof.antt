@@ -2,7 +2,7 @@
 -- Assumes nothing.
 use mathlib.Core.Path.{sym}
 use borrow.Author.Needs.{needs}
-use Rattle.map.proofs.Turns.{freed-low, freed-in, freed-high}
+use Rattle.pool.proofs.Held.{freed-low, freed-in, freed-high}
 use Rattle.map.proofs.unmap.kept.Statement.{statement}
 use Rattle.map.proofs.unmap.kept.Tie as tie
 

@@ -6,7 +6,7 @@ use Prim.Native.Nat.{_≤_, _-_}
 use native.Mathlib.Omega.{arith}
 use lib.ListN.{length, take, drop, length-set}
 use borrow.Author.Needs.{needs}
-use Rattle.map.specs.Pool.{freed}
+use Rattle.pool.specs.Pool.{freed}
 use Rattle.map.proofs.Turns.{map-turn, map-done, unmap-is}
 use Rattle.map.proofs.unmap.unmap_blocks.Statement.{statement}
 use Rattle.map.proofs.unmap.unmap_blocks.Tie as tie

@@ -5,13 +5,12 @@ use Prim.Native.Nat.{_≤_, _-_}
 use native.Mathlib.Omega.{arith}
 use lib.ListN.{length, length-set}
 use borrow.Author.Needs.{needs}
-use Rattle.map.proofs.Indexing.{length-places}
 use Rattle.map.proofs.Blocks.{Given, give-start, give-none, give-below, give-one, give-done}
 use Rattle.map.proofs.write.assign_blocks.Statement.{statement}
 use Rattle.map.proofs.write.assign_blocks.Tie as tie
 
 abbrev Inv-loop : tie.InvT-loop
-Inv-loop owners₀ index₀ count a n cursor₀ k₀ owners index cursor k = (k ≤ count) × (n ≡ length owners₀) × (length index ≡ length index₀) × Given owners₀ a count owners index cursor k
+Inv-loop owners₀ index₀ count a n cursor₀ k₀ owners index cursor k = (k ≤ count) × (n ≡ length owners₀) × (length index ≡ length index₀) × Given owners₀ a count owners index (cursor .0) k
 
 abbrev μ-loop : tie.MeasureT-loop
 μ-loop owners₀ index₀ count a n cursor₀ k₀ owners index cursor k = count - k
@@ -23,9 +22,7 @@ mul-if1 : tie.Need-mul-if1 Inv-loop μ-loop
 mul-if1 c = search needs
 
 slice-read-if1 : tie.Need-slice-read-if1 Inv-loop μ-loop
-slice-read-if1 c =
-    let c₅ = c .before .before .before .before .before in
-    omega (arith, ap length (c₅ .pre .2), length-places (c₅ .args .owners .now) (c₅ .args .lba .0) 128)
+slice-read-if1 c = omega (arith, c .before .before .before .before .before .pre .2 .size)
 
 add-k : tie.Need-add-k Inv-loop μ-loop
 add-k c = search needs
@@ -35,9 +32,8 @@ loop-less c = search needs
 
 loop-again : tie.Need-loop-again Inv-loop μ-loop
 loop-again c =
-    let c₆ = c .before .before .before .before .before .before in
     let l = c .before .before .before .loop in
-    (search needs, l .inv .1, l .inv .2, give-none _ _ _ _ _ _ _ (l .inv .3) (c .before .before .loop-test .taken) (c₆ .pre .0) (omega (arith, l .inv .3 .same)))
+    (search needs, l .inv .1, l .inv .2, give-none _ _ _ _ _ _ _ (l .inv .3) (c .before .before .loop-test .taken) (omega (arith, l .inv .3 .same)))
 
 next-free-requires : tie.Need-next-free-requires Inv-loop μ-loop
 next-free-requires c κs = (c .before .before .before .before .loop .inv .3 .low)
@@ -50,23 +46,19 @@ add-owners-2 c = search needs
 
 mul-owners : tie.Need-mul-owners Inv-loop μ-loop
 mul-owners c =
-    let c₈ = c .before .before .before .before .before .before .before .before in
     let l = c .before .before .before .before .before .loop in
-    omega (arith, c .next-free .ensures, give-below _ _ _ _ _ _ _ (l .inv .3) (c .before .before .before .before .loop-test .taken) (c₈ .pre .0) (omega (arith, l .inv .3 .same)))
+    omega (arith, c .next-free .ensures, give-below _ _ _ _ _ _ _ (l .inv .3) (c .before .before .before .before .loop-test .taken) (omega (arith, l .inv .3 .same)))
 
 slice-write-owners : tie.Need-slice-write-owners Inv-loop μ-loop
 slice-write-owners c =
-    let c₈ = c .before .before .before .before .before .before .before .before in
     let l = c .before .before .before .before .before .loop in
-    omega (arith, c .next-free .ensures, give-below _ _ _ _ _ _ _ (l .inv .3) (c .before .before .before .before .loop-test .taken) (c₈ .pre .0) (omega (arith, l .inv .3 .same)))
+    omega (arith, c .next-free .ensures, give-below _ _ _ _ _ _ _ (l .inv .3) (c .before .before .before .before .loop-test .taken) (omega (arith, l .inv .3 .same)))
 
 mul-index : tie.Need-mul-index Inv-loop μ-loop
 mul-index c = search needs
 
 slice-write-index : tie.Need-slice-write-index Inv-loop μ-loop
-slice-write-index c =
-    let c₈ = c .before .before .before .before .before .before .before .before in
-    omega (arith, ap length (c₈ .pre .2), length-places (c₈ .args .owners .now) (c₈ .args .lba .0) 128)
+slice-write-index c = omega (arith, c .before .before .before .before .before .before .before .before .pre .2 .size)
 
 add-k-2 : tie.Need-add-k-2 Inv-loop μ-loop
 add-k-2 c = search needs
@@ -76,9 +68,8 @@ loop-less-2 c = search needs
 
 loop-again-2 : tie.Need-loop-again-2 Inv-loop μ-loop
 loop-again-2 c =
-    let c₈ = c .before .before .before .before .before .before .before .before in
     let l = c .before .before .before .before .before .loop in
-    (search needs, l .inv .1, simp length-set (l .inv .2), give-one _ _ _ _ _ _ _ (l .inv .3) (c .before .before .before .before .loop-test .taken) (c₈ .pre .0) (omega (arith, l .inv .3 .same)) _ (c .next-free .ensures))
+    (search needs, l .inv .1, simp length-set (l .inv .2), give-one _ _ _ _ _ _ _ (l .inv .3) (c .before .before .before .before .loop-test .taken) (omega (arith, l .inv .3 .same)) _ (c .next-free .ensures))
 
 same-length : tie.Need-same-length Inv-loop μ-loop
 same-length c = (c .before .loop .inv .3 .same)

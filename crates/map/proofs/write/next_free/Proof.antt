@@ -5,7 +5,7 @@ use Prim.Native.Nat.{_≤_, _-_}
 use native.Mathlib.Omega.{arith}
 use lib.ListN.{length}
 use borrow.Author.Needs.{needs}
-use Rattle.map.specs.Pool.{place}
+use Rattle.pool.specs.Pool.{place}
 use Rattle.map.proofs.Turns.{place-most, later, at-last}
 use Rattle.map.proofs.write.next_free.Statement.{statement}
 use Rattle.map.proofs.write.next_free.Tie as tie

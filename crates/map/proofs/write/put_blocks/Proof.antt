@@ -10,13 +10,14 @@ use borrow.Rule.Slice.PartMut.{putMid}
 use borrow.Author.Needs.{needs}
 use Rattle.fields.specs.Bytes.{part, put}
 use Rattle.fields.proofs.BytesLaws.{length-part}
+use Rattle.pool.specs.Bounds.{blockBytes}
 use Rattle.map.specs.Index.{putPlaces}
 use Rattle.map.proofs.Blocks.{lent-back, part-is, put-turn, put-end}
 use Rattle.map.proofs.write.put_blocks.Statement.{statement}
 use Rattle.map.proofs.write.put_blocks.Tie as tie
 
 abbrev Inv-loop : tie.InvT-loop
-Inv-loop medium₀ index slots count bytes k₀ medium k = (k ≤ count) × (length medium ≡ length medium₀) × (putPlaces (drop k (take count index)) medium (drop (512 * k) bytes) ≡ putPlaces (take count index) medium₀ bytes)
+Inv-loop medium₀ index slots count bytes k₀ medium k = (k ≤ count) × (length medium ≡ length medium₀) × (putPlaces (drop k (take count index)) medium (drop (blockBytes * k) bytes) ≡ putPlaces (take count index) medium₀ bytes)
 
 abbrev μ-loop : tie.MeasureT-loop
 μ-loop medium₀ index slots count bytes k₀ medium k = count - k
@@ -89,10 +90,10 @@ loop-again c =
     let is = take (a .count) (a .index .now) in
     let w : l .k < length is = rw (length-take-le (a .count) (a .index .now) (c₁₁ .pre .2)) (c₆ .loop-test .taken) in
     let g : getD is (l .k) 0 ≡ i = getD-take (a .count) (a .index .now) (l .k) 0 (c₆ .loop-test .taken) in
-    let p : part (a .bytes .now) (512 * l .k) 512 ≡ c .before .before .copy .last .0 = sym ((c .before .before .copy .ensures) ∙ part-is (512 * l .k) 512 (a .bytes .now)) in
-    let m : putMid (512 * i) (512 * i + 512 - 512 * i) (l .medium) (c .before .before .copy .last .0) ≡ put (l .medium) (512 * getD is (l .k) 0) (part (a .bytes .now) (512 * l .k) 512) =
-    rw (g, p) (lent-back (l .medium) (c .before .before .copy .last .0) (512 * i) 512 (ap length (sym p) ∙ length-part (a .bytes .now) (512 * l .k) 512 (omega arith)) (omega arith)) in
-    (search needs, c .before .medium .given .1 ∙ l .inv .1, ap (λ (z : List ℕ). putPlaces (drop (l .k + 1) is) z (drop (512 * (l .k + 1)) (a .bytes .now))) m ∙ sym (put-turn is (l .medium) (a .bytes .now) (l .k) w) ∙ l .inv .2)
+    let p : part (a .bytes .now) (blockBytes * l .k) blockBytes ≡ c .before .before .copy .last .0 = sym ((c .before .before .copy .ensures) ∙ part-is (blockBytes * l .k) blockBytes (a .bytes .now)) in
+    let m : putMid (blockBytes * i) (blockBytes * i + blockBytes - blockBytes * i) (l .medium) (c .before .before .copy .last .0) ≡ put (l .medium) (blockBytes * getD is (l .k) 0) (part (a .bytes .now) (blockBytes * l .k) blockBytes) =
+    rw (g, p) (lent-back (l .medium) (c .before .before .copy .last .0) (blockBytes * i) blockBytes (ap length (sym p) ∙ length-part (a .bytes .now) (blockBytes * l .k) blockBytes (omega arith)) (omega arith)) in
+    (search needs, c .before .medium .given .1 ∙ l .inv .1, ap (λ (z : List ℕ). putPlaces (drop (l .k + 1) is) z (drop (blockBytes * (l .k + 1)) (a .bytes .now))) m ∙ sym (put-turn is (l .medium) (a .bytes .now) (l .k) w) ∙ l .inv .2)
 
 same-length : tie.Need-same-length Inv-loop μ-loop
 same-length c = search needs

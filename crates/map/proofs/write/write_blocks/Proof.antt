@@ -6,12 +6,12 @@ use Prim.Native.Nat.{ℕ, _≤_}
 use native.Mathlib.Omega.{arith}
 use lib.ListN.{length, take}
 use borrow.Author.Needs.{needs}
-use Rattle.map.specs.Pool.{unmapped, free, assignBlocks}
-use Rattle.map.specs.Index.{places, putPlaces}
-use Rattle.map.specs.Write.{pool}
-use Rattle.map.proofs.Indexing.{length-places, missing-is}
+use Rattle.pool.specs.Pool.{unmapped, free, assignBlocks}
+use Rattle.map.specs.Index.{places, Indexed, putPlaces}
+use Rattle.pool.specs.Pool.{pool}
+use Rattle.map.proofs.Indexing.{missing-is}
 use Rattle.map.proofs.Blocks.{putPlaces-is, given-below}
-use Rattle.map.proofs.Answering.{try-full, try-done}
+use Rattle.map.proofs.Trying.{try-full, try-done}
 use Rattle.map.proofs.write.write_blocks.Statement.{statement}
 use Rattle.map.proofs.write.write_blocks.Tie as tie
 
@@ -24,7 +24,7 @@ slice-aggregate-missing-in c = search needs
 missing-in-requires : tie.Need-missing-in-requires
 missing-in-requires c κs =
     let c₆ = c .before .before .before .before .before .before in
-    omega (arith, c₆ .pre .0, ap length (c .before .index-of .ensures), length-places (c₆ .args .owners .now) (c₆ .args .lba .0) 128)
+    omega (arith, c₆ .pre .0, c .before .index-of .ensures .size)
 
 free-slots-requires : tie.Need-free-slots-requires
 free-slots-requires c κs = search needs
@@ -37,7 +37,7 @@ returns c =
     let c₅ = c .before .before .before .before .before in
     let c₁₀ = c₅ .before .before .before .before .before in
     let a = c₁₀ .args in
-    let m = missing-is (a .owners .now) (c₅ .index-of .result) (a .lba .0) (a .count) (c .before .before .before .missing-in .result) (c₅ .index-of .ensures) (c₁₀ .pre .0) (c .before .before .before .missing-in .ensures) in
+    let m = missing-is (a .owners .now) (c₅ .index-of .result) (a .lba .0) (a .count) (c .before .before .before .missing-in .result) (c₅ .index-of .ensures) (c .before .before .before .missing-in .ensures) in
     try-full (pool (a .owners .now) (a .medium .now)) (a .lba .0) (a .count) (a .bytes .now) (omega (arith, c .before .free-slots .ensures))
 
 slice-aggregate-assign-blocks : tie.Need-slice-aggregate-assign-blocks
@@ -49,7 +49,7 @@ assign-blocks-requires c κs =
     let c₇ = c₅ .before .before in
     let c₁₂ = c₇ .before .before .before .before .before in
     let a = c₁₂ .args in
-    let m = missing-is (a .owners .now) (c₇ .index-of .result) (a .lba .0) (a .count) (c₅ .missing-in .result) (c₇ .index-of .ensures) (c₁₂ .pre .0) (c₅ .missing-in .ensures) in
+    let m = missing-is (a .owners .now) (c₇ .index-of .result) (a .lba .0) (a .count) (c₅ .missing-in .result) (c₇ .index-of .ensures) (c₅ .missing-in .ensures) in
     (c₁₂ .pre .0, c₁₂ .pre .1, c₇ .index-of .ensures, omega (arith, c .before .before .before .free-slots .ensures, c .before .before .if1 .left))
 
 slice-aggregate-put-blocks : tie.Need-slice-aggregate-put-blocks
@@ -65,10 +65,10 @@ put-blocks-requires c κs =
     let c₁₈ = c₁₃ .before .before .before .before .before in
     let a = c₁₈ .args in
     let e = c₅ .assign-blocks .ensures in
-    let m = missing-is (a .owners .now) (c₁₃ .index-of .result) (a .lba .0) (a .count) (c₁₁ .missing-in .result) (c₁₃ .index-of .ensures) (c₁₈ .pre .0) (c₁₁ .missing-in .ensures) in
+    let m = missing-is (a .owners .now) (c₁₃ .index-of .result) (a .lba .0) (a .count) (c₁₁ .missing-in .result) (c₁₃ .index-of .ensures) (c₁₁ .missing-in .ensures) in
     let r : unmapped (a .owners .now) (a .lba .0) (a .count) ≤ free (a .owners .now) = omega (arith, c₉ .free-slots .ensures, c₈ .if1 .left) in
-    let n : length (c₅ .assign-blocks .last .1 .0) ≡ 128 = ap length (e .1) ∙ length-places (c₅ .assign-blocks .last .0) (a .lba .0) 128 in
-    (c₁₈ .pre .0, c₁₈ .pre .2, omega (arith, c₁₈ .pre .0), c₁₈ .pre .3, c₁₈ .pre .4, λ k h. rw (e .1, e .0) (given-below (a .owners .now) (a .lba .0) (a .count) k r h (c₁₈ .pre .0)))
+    let x : Indexed (assignBlocks (a .owners .now) (a .lba .0) (a .count)) (a .lba .0) (a .count) (c₅ .assign-blocks .last .1 .0) = rw (e .0) at (e .1) in
+    (c₁₈ .pre .0, c₁₈ .pre .2, omega (arith, c₁₈ .pre .0, x .size), c₁₈ .pre .3, c₁₈ .pre .4, λ k h. given-below (a .owners .now) _ (a .lba .0) (a .count) k r x h)
 
 same-length-2 : tie.Need-same-length-2
 same-length-2 c = search needs
@@ -86,11 +86,11 @@ returns-2 c =
     let c₂₁ = c₁₆ .before .before .before .before .before in
     let a = c₂₁ .args in
     let e = c₈ .assign-blocks .ensures in
-    let m = missing-is (a .owners .now) (c₁₆ .index-of .result) (a .lba .0) (a .count) (c₁₄ .missing-in .result) (c₁₆ .index-of .ensures) (c₂₁ .pre .0) (c₁₄ .missing-in .ensures) in
+    let m = missing-is (a .owners .now) (c₁₆ .index-of .result) (a .lba .0) (a .count) (c₁₄ .missing-in .result) (c₁₆ .index-of .ensures) (c₁₄ .missing-in .ensures) in
     let o = assignBlocks (a .owners .now) (a .lba .0) (a .count) in
-    let i : c₈ .assign-blocks .last .1 .0 ≡ places o (a .lba .0) 128 = e .1 ∙ ap (λ (l : List ℕ). places l (a .lba .0) 128) (e .0) in
+    let i : take (a .count) (c₈ .assign-blocks .last .1 .0) ≡ places o (a .lba .0) (a .count) = e .1 .each ∙ ap (λ (l : List ℕ). places l (a .lba .0) (a .count)) (e .0) in
     try-done (pool (a .owners .now) (a .medium .now)) (a .lba .0) (a .count) (a .bytes .now) _ _ (omega (arith, c₁₂ .free-slots .ensures, c₁₁ .if1 .left)) (e .0)
-    ((c .before .before .put-blocks .ensures) ∙ ap (λ (is : List ℕ). putPlaces (take (a .count) is) (a .medium .now) (a .bytes .now)) i ∙ putPlaces-is o (a .lba .0) 128 (a .count) (a .medium .now) (a .bytes .now) (c₂₁ .pre .0))
+    ((c .before .before .put-blocks .ensures) ∙ ap (λ (is : List ℕ). putPlaces is (a .medium .now) (a .bytes .now)) i ∙ putPlaces-is o (a .lba .0) (a .count) (a .medium .now) (a .bytes .now))
 
 pub write-blocks-spec : {M : Type 1} → statement M
 write-blocks-spec =

@@ -1,0 +1,7 @@
+pub mod Held
+pub mod Keeping
+pub mod Writing
+pub mod Unmapping
+pub mod Reading
+pub mod Clashes
+pub mod Alike

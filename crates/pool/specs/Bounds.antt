@@ -1,0 +1,19 @@
+-- The bounds of document 01, named once.
+-- Assumes nothing.
+use Prim.Native.Nat.{ℕ, _^_}
+
+-- "capacity, blocks | 1 to 2^40"
+abbrev pub mostBlocks : ℕ
+mostBlocks = 2 ^ 40
+
+-- "slots in the pool | 1 to 128"
+abbrev pub mostSlots : ℕ
+mostSlots = 128
+
+-- "blocks of 512 bytes"
+abbrev pub blockBytes : ℕ
+blockBytes = 512
+
+-- "blocks in one READ or WRITE | 128"
+abbrev pub mostTransfer : ℕ
+mostTransfer = 128

@@ -1,0 +1,5 @@
+pub mod Bounds
+pub mod Pool
+pub mod Valid
+pub mod Faults
+pub mod Alike

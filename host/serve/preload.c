@@ -109,6 +109,8 @@ static int remember(int file, uint32_t nexus)
 
 static int open_device(uint32_t nexus, int flags)
 {
+    if ((flags & O_DIRECTORY) != 0)
+        return refuse(ENOTDIR);
     if ((flags & (O_CREAT | O_TRUNC)) != 0)
         return refuse(EOPNOTSUPP);
     if (sg_io_try_server() != 0)

@@ -32,7 +32,7 @@
 
 enum {
     CAPACITY = 64,
-    SLOTS = 32,
+    SLOTS = 48,
     WORDS_MOST = 64,
     BLOCKS_MOST = 16,
     NEXUSES = 4,
@@ -321,7 +321,7 @@ static struct store_call read_all(void)
    own key. */
 static struct store_call random_reservation(void)
 {
-    static const uint8_t actions[] = {6, 6, 1, 2, 2, 3};
+    static const uint8_t actions[] = {6, 6, 1, 2, 3, 3, 3};
     static const uint8_t types[] = {1, 3, 5, 6, 7, 8};
     struct store_call call = new_call(10, 24, 0);
     cdb[0] = 0x5F;

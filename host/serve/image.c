@@ -187,9 +187,16 @@ static enum image_outcome load(struct image *image, struct store *store)
     return good && check(image, count, store) ? IMAGE_DONE : IMAGE_FAILED;
 }
 
+/* The last server may have been killed between giving the image its name and
+   syncing the folder. What is served from here on must not be lost again. */
 enum image_outcome image_load(struct image *image, struct store *store)
 {
-    return load(image, store);
+    enum image_outcome outcome = load(image, store);
+    if (outcome == IMAGE_DONE && fsync(image->directory) != 0) {
+        because(image, "its folder cannot be synced: %s", strerror(errno));
+        return IMAGE_FAILED;
+    }
+    return outcome;
 }
 
 enum image_outcome image_read(struct image *image, const char *path,

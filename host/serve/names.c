@@ -15,8 +15,8 @@ const char *name_of_command(const uint8_t *cdb, size_t cdb_bytes)
     case 0x28: return "READ(10)";
     case 0x2A: return "WRITE(10)";
     case 0x42: return "UNMAP";
-    case 0x5E: return "RESERVE IN";
-    case 0x5F: return "RESERVE OUT";
+    case 0x5E: return "PERSISTENT RESERVE IN";
+    case 0x5F: return "PERSISTENT RESERVE OUT";
     case 0x88: return "READ(16)";
     case 0x8A: return "WRITE(16)";
     case 0x9E: return "READ CAPACITY(16)";

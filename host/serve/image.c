@@ -11,6 +11,8 @@
 #include <sys/stat.h>
 #include <unistd.h>
 
+#include "numbers.h"
+
 enum {
     FORMAT_VERSION = 1,
     HEAD_BYTES = 24,
@@ -32,21 +34,7 @@ static int because(struct image *image, const char *form, ...)
     return 0;
 }
 
-/* ---- numbers and the checksum ---- */
-
-static void put_number(uint8_t *at, uint64_t number, int width)
-{
-    for (int place = 0; place < width; place++)
-        at[place] = (uint8_t)(number >> (8 * (width - 1 - place)));
-}
-
-static uint64_t number_at(const uint8_t *at, int width)
-{
-    uint64_t number = 0;
-    for (int place = 0; place < width; place++)
-        number = number << 8 | at[place];
-    return number;
-}
+/* ---- the checksum ---- */
 
 static void fill_table(uint64_t *table)
 {

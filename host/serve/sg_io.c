@@ -15,10 +15,9 @@
 #include <scsi/sg.h>
 #include <stdlib.h>
 #include <string.h>
-#include <sys/time.h>
 #include <unistd.h>
 
-#include "wire.h"
+#include "ask.h"
 
 #define VERSION_VARIABLE "RIDGE_SG_VERSION"
 
@@ -32,15 +31,6 @@ enum {
     DRIVER_SENSE = 0x08
 };
 
-/* One command, as both forms of SG_IO put it, and what came of it. */
-struct command {
-    const uint8_t *cdb, *data_out;
-    uint8_t *data_in;
-    uint32_t cdb_bytes, data_out_bytes, data_in_bytes;
-    struct wire_reply reply;
-    uint8_t sense[WIRE_SENSE_MOST];
-};
-
 static int refuse(int error)
 {
     errno = error;
@@ -49,76 +39,34 @@ static int refuse(int error)
 
 /* ---- one command over the wire ---- */
 
-static int connect_to_server(void)
+int sg_io_try_server(void)
 {
-    struct sockaddr_un address;
     const char *path = getenv(WIRE_SOCKET_VARIABLE);
     if (path == NULL)
         return refuse(ENXIO);
-    if (!wire_address(&address, path))
-        return refuse(ENAMETOOLONG);
-    int connection = socket(AF_UNIX, SOCK_STREAM | SOCK_CLOEXEC, 0);
-    if (connection < 0)
-        return -1;
-    struct timeval patience = {.tv_sec = WIRE_TOOL_SECONDS};
-    setsockopt(connection, SOL_SOCKET, SO_SNDTIMEO, &patience, sizeof patience);
-    if (connect(connection, (struct sockaddr *)&address, sizeof address) == 0)
-        return connection;
-    close(connection);
-    return refuse(ENXIO);
-}
-
-int sg_io_try_server(void)
-{
-    int connection = connect_to_server();
+    int connection = ask_connect(path);
     return connection < 0 ? -1 : close(connection);
 }
 
-static int send_request(struct wire *wire, uint32_t nexus,
-                        const struct command *command)
+static int exchange(struct ask *ask)
 {
-    uint8_t head[WIRE_REQUEST_BYTES];
-    struct wire_request request = {.nexus = nexus,
-                                   .cdb_bytes = command->cdb_bytes,
-                                   .data_out_bytes = command->data_out_bytes,
-                                   .data_in_bytes = command->data_in_bytes};
-    wire_store_request(head, &request);
-    return wire_send(wire, head, sizeof head) &&
-           wire_send(wire, command->cdb, command->cdb_bytes) &&
-           wire_send(wire, command->data_out, command->data_out_bytes);
-}
-
-/* Gives 0 or the error. Only the returned bytes of data-in are written, as the
-   store promises. */
-static int receive_reply(struct wire *wire, struct command *command)
-{
-    uint8_t head[WIRE_REPLY_BYTES];
-    if (!wire_receive(wire, head, sizeof head))
-        return EIO;
-    if (!wire_load_reply(head, &command->reply) ||
-        command->reply.returned > command->data_in_bytes)
-        return EPROTO;
-    if (!wire_receive(wire, command->sense, command->reply.sense_bytes) ||
-        !wire_receive(wire, command->data_in, command->reply.returned))
-        return EIO;
-    return 0;
-}
-
-static int exchange(uint32_t nexus, struct command *command)
-{
-    struct wire wire;
-    if (command->cdb_bytes > WIRE_CDB_MOST ||
-        command->data_out_bytes > WIRE_DATA_MOST ||
-        command->data_in_bytes > WIRE_DATA_MOST)
+    const char *path = getenv(WIRE_SOCKET_VARIABLE);
+    if (path == NULL)
+        return refuse(ENXIO);
+    if (ask->request.cdb_bytes > WIRE_CDB_MOST ||
+        ask->request.data_out_bytes > WIRE_DATA_MOST ||
+        ask->request.data_in_bytes > WIRE_DATA_MOST)
         return refuse(ENOMEM);
-    int connection = connect_to_server();
-    if (connection < 0)
+    switch (ask_server(path, ask)) {
+    case ASK_ANSWERED:
+        return 0;
+    case ASK_NO_SERVER:
         return -1;
-    wire_begin(&wire, connection, WIRE_TOOL_SECONDS);
-    int error = send_request(&wire, nexus, command)
-                    ? receive_reply(&wire, command) : EIO;
-    close(connection);
-    return error == 0 ? 0 : refuse(error);
+    case ASK_NO_REPLY:
+        return refuse(EPROTO);
+    default:
+        return refuse(EIO);
+    }
 }
 
 /* ---- what the answer is in SCSI ---- */
@@ -148,23 +96,23 @@ static int status_of(uint32_t answer, uint8_t *status)
 }
 
 /* The sense goes to the tool exactly with CHECK CONDITION, as much as fits. */
-static uint32_t hand_over_sense(const struct command *command, uint8_t status,
+static uint32_t hand_over_sense(const struct ask *ask, uint8_t status,
                                 uint8_t *sense, uint32_t most)
 {
-    uint32_t count = command->reply.sense_bytes;
+    uint32_t count = ask->reply.sense_bytes;
     if (status != STATUS_CHECK_CONDITION || sense == NULL)
         return 0;
     if (count > most)
         count = most;
-    memcpy(sense, command->sense, count);
+    memcpy(sense, ask->sense, count);
     return count;
 }
 
-static int perform(uint32_t nexus, struct command *command, uint8_t *status)
+static int perform(struct ask *ask, uint8_t *status)
 {
-    if (exchange(nexus, command) != 0)
+    if (exchange(ask) != 0)
         return -1;
-    return status_of(command->reply.answer, status);
+    return status_of(ask->reply.answer, status);
 }
 
 static int driver_status_of(uint8_t status)
@@ -179,41 +127,42 @@ static unsigned info_of(uint8_t status)
 
 /* Data-out counts as moved as a whole on GOOD and not at all otherwise: the
    store does not say how much of an overlong list it looked at. */
-static int data_out_left(const struct command *command)
+static int data_out_left(const struct ask *ask)
 {
-    return command->reply.answer == 0 ? 0 : (int)command->data_out_bytes;
+    return ask->reply.answer == 0 ? 0 : (int)ask->request.data_out_bytes;
 }
 
-static int data_in_left(const struct command *command)
+static int data_in_left(const struct ask *ask)
 {
-    return (int)(command->data_in_bytes - command->reply.returned);
+    return (int)(ask->request.data_in_bytes - ask->reply.returned);
 }
 
 /* ---- the two forms of SG_IO ---- */
 
 static int perform_version_3(uint32_t nexus, struct sg_io_hdr *header)
 {
-    struct command command = {.cdb = header->cmdp, .cdb_bytes = header->cmd_len};
+    struct ask ask = {.request = {.nexus = nexus, .cdb_bytes = header->cmd_len},
+                      .cdb = header->cmdp};
     uint8_t status;
     if (header->iovec_count != 0)
         return refuse(EOPNOTSUPP);
     if (header->dxfer_direction == SG_DXFER_TO_DEV) {
-        command.data_out = header->dxferp;
-        command.data_out_bytes = header->dxfer_len;
+        ask.data_out = header->dxferp;
+        ask.request.data_out_bytes = header->dxfer_len;
     } else if (header->dxfer_direction != SG_DXFER_NONE) {
-        command.data_in = header->dxferp;
-        command.data_in_bytes = header->dxfer_len;
+        ask.data_in = header->dxferp;
+        ask.request.data_in_bytes = header->dxfer_len;
     }
-    if (perform(nexus, &command, &status) != 0)
+    if (perform(&ask, &status) != 0)
         return -1;
     header->status = status;
     header->masked_status = status >> 1;
     header->msg_status = 0;
     header->sb_len_wr = (unsigned char)hand_over_sense(
-        &command, status, header->sbp, header->mx_sb_len);
+        &ask, status, header->sbp, header->mx_sb_len);
     header->host_status = 0;
     header->driver_status = (unsigned short)driver_status_of(status);
-    header->resid = data_out_left(&command) + data_in_left(&command);
+    header->resid = data_out_left(&ask) + data_in_left(&ask);
     header->duration = 0;
     header->info = info_of(status);
     return 0;
@@ -221,28 +170,29 @@ static int perform_version_3(uint32_t nexus, struct sg_io_hdr *header)
 
 static int perform_version_4(uint32_t nexus, struct sg_io_v4 *header)
 {
-    struct command command = {
+    struct ask ask = {
+        .request = {.nexus = nexus,
+                    .cdb_bytes = header->request_len,
+                    .data_out_bytes = header->dout_xfer_len,
+                    .data_in_bytes = header->din_xfer_len},
         .cdb = (const uint8_t *)(uintptr_t)header->request,
-        .cdb_bytes = header->request_len,
         .data_out = (const uint8_t *)(uintptr_t)header->dout_xferp,
-        .data_out_bytes = header->dout_xfer_len,
-        .data_in = (uint8_t *)(uintptr_t)header->din_xferp,
-        .data_in_bytes = header->din_xfer_len};
+        .data_in = (uint8_t *)(uintptr_t)header->din_xferp};
     uint8_t status;
     if (header->protocol != BSG_PROTOCOL_SCSI ||
         header->subprotocol != BSG_SUB_PROTOCOL_SCSI_CMD ||
         header->dout_iovec_count != 0 || header->din_iovec_count != 0)
         return refuse(EOPNOTSUPP);
-    if (perform(nexus, &command, &status) != 0)
+    if (perform(&ask, &status) != 0)
         return -1;
     header->device_status = status;
     header->transport_status = 0;
     header->driver_status = (unsigned)driver_status_of(status);
     header->response_len = hand_over_sense(
-        &command, status, (uint8_t *)(uintptr_t)header->response,
+        &ask, status, (uint8_t *)(uintptr_t)header->response,
         header->max_response_len);
-    header->din_resid = data_in_left(&command);
-    header->dout_resid = data_out_left(&command);
+    header->din_resid = data_in_left(&ask);
+    header->dout_resid = data_out_left(&ask);
     header->retry_delay = 0;
     header->duration = 0;
     header->info = info_of(status);

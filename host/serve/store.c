@@ -12,6 +12,8 @@
 
 #include <string.h>
 
+#include "numbers.h"
+
 enum { HEAD_BYTES = 8, WORD_BYTES = 8 };
 
 int store_fresh(struct store *store, uint64_t capacity, uint64_t slots)
@@ -76,35 +78,32 @@ int store_same(const struct store *one, const struct store *other)
                   one->slots * RIDGE_BLOCK_BYTES) == 0;
 }
 
-static uint8_t *put_number(uint8_t *at, uint64_t number, int width)
-{
-    for (int place = 0; place < width; place++)
-        at[place] = (uint8_t)(number >> (8 * (width - 1 - place)));
-    return at + width;
-}
-
-static const uint8_t *take_number(const uint8_t *at, uint64_t *number, int width)
-{
-    *number = 0;
-    for (int place = 0; place < width; place++)
-        *number = *number << 8 | at[place];
-    return at + width;
-}
-
 static size_t packed_bytes(uint64_t slots)
 {
     return HEAD_BYTES + WORD_BYTES * RIDGE_STATE_WORDS +
            (WORD_BYTES + RIDGE_BLOCK_BYTES) * (size_t)slots;
 }
 
+static uint8_t *put_words(uint8_t *at, const uint64_t *words, size_t count)
+{
+    for (size_t word = 0; word < count; word++, at += WORD_BYTES)
+        put_number(at, words[word], WORD_BYTES);
+    return at;
+}
+
+static const uint8_t *take_words(const uint8_t *at, uint64_t *words, size_t count)
+{
+    for (size_t word = 0; word < count; word++, at += WORD_BYTES)
+        words[word] = number_at(at, WORD_BYTES);
+    return at;
+}
+
 size_t store_pack(const struct store *store, uint8_t *bytes)
 {
-    uint8_t *at = put_number(bytes, store->slots, 4);
-    at = put_number(at, RIDGE_STATE_WORDS, 4);
-    for (size_t word = 0; word < RIDGE_STATE_WORDS; word++)
-        at = put_number(at, store->state[word], WORD_BYTES);
-    for (size_t slot = 0; slot < store->slots; slot++)
-        at = put_number(at, store->owners[slot], WORD_BYTES);
+    put_number(bytes, store->slots, 4);
+    put_number(bytes + 4, RIDGE_STATE_WORDS, 4);
+    uint8_t *at = put_words(bytes + HEAD_BYTES, store->state, RIDGE_STATE_WORDS);
+    at = put_words(at, store->owners, store->slots);
     memcpy(at, store->medium, store->slots * RIDGE_BLOCK_BYTES);
     return packed_bytes(store->slots);
 }
@@ -124,23 +123,20 @@ static int is_usable(struct store *store)
 const char *store_unpack(struct store *store, uint32_t layout,
                          const uint8_t *bytes, size_t count)
 {
-    uint64_t slots, words;
     memset(store, 0, sizeof *store);
     if (layout != STORE_LAYOUT)
         return "its store is in a layout that this program does not know";
     if (count < HEAD_BYTES)
         return "its store is cut short";
-    const uint8_t *at = take_number(bytes, &slots, 4);
-    at = take_number(at, &words, 4);
+    uint64_t slots = number_at(bytes, 4), words = number_at(bytes + 4, 4);
     if (slots < 1 || slots > RIDGE_SLOTS)
         return "its number of slots is out of bounds";
     if (words != RIDGE_STATE_WORDS || count != packed_bytes(slots))
         return "its store does not have the length that its slots need";
     store->slots = (size_t)slots;
-    for (size_t word = 0; word < RIDGE_STATE_WORDS; word++)
-        at = take_number(at, &store->state[word], WORD_BYTES);
-    for (size_t slot = 0; slot < store->slots; slot++)
-        at = take_number(at, &store->owners[slot], WORD_BYTES);
+    const uint8_t *at =
+        take_words(bytes + HEAD_BYTES, store->state, RIDGE_STATE_WORDS);
+    at = take_words(at, store->owners, store->slots);
     memcpy(store->medium, at, store->slots * RIDGE_BLOCK_BYTES);
     return is_usable(store) ? NULL : "its store is not in a valid state";
 }

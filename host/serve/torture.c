@@ -26,9 +26,9 @@
 #include <time.h>
 #include <unistd.h>
 
+#include "ask.h"
 #include "image.h"
 #include "store.h"
-#include "wire.h"
 
 enum {
     CAPACITY = 64,
@@ -188,88 +188,39 @@ static void await_kill(void)
 
 /* ---- asking it ---- */
 
-static int connect_to_server(void)
-{
-    struct sockaddr_un address;
-    int connection = socket(AF_UNIX, SOCK_STREAM | SOCK_CLOEXEC, 0);
-    if (connection < 0 || !wire_address(&address, socket_path))
-        fail("socket", strerror(errno));
-    int result;
-    do
-        result = connect(connection, (struct sockaddr *)&address, sizeof address);
-    while (result != 0 && errno == EINTR);
-    if (result == 0)
-        return connection;
-    close(connection);
-    return -1;
-}
-
-static int send_call(struct wire *wire, const struct store_call *call)
-{
-    uint8_t head[WIRE_REQUEST_BYTES];
-    struct wire_request request = {
-        .nexus = (uint32_t)call->nexus,
-        .cdb_bytes = (uint32_t)call->cdb_bytes,
-        .data_out_bytes = (uint32_t)call->data_out_bytes,
-        .data_in_bytes = (uint32_t)call->data_in_bytes};
-    wire_store_request(head, &request);
-    return wire_send(wire, head, sizeof head) &&
-           wire_send(wire, call->cdb, call->cdb_bytes) &&
-           wire_send(wire, call->data_out, call->data_out_bytes);
-}
-
-static int receive_reply(struct wire *wire, struct wire_reply *reply,
-                         uint8_t *sense)
-{
-    uint8_t head[WIRE_REPLY_BYTES];
-    if (!wire_receive(wire, head, sizeof head))
-        return 0;
-    if (!wire_load_reply(head, reply) || reply->returned > sizeof heard ||
-        reply->sense_bytes > STORE_SENSE_BYTES)
-        fail("a reply that is none", "");
-    return wire_receive(wire, sense, reply->sense_bytes) &&
-           wire_receive(wire, heard, reply->returned);
-}
-
 /* What came back must be what the copy answers. */
-static void hold_to_copy(const struct store_call *asked,
-                         const struct wire_reply *reply, const uint8_t *sense)
+static void hold_to_copy(const struct store_call *asked, const struct ask *ask)
 {
     struct store_call call = *asked;
     struct store was = copy;
     uint64_t answer = store_execute(&copy, &call);
-    if (reply->answer != answer || reply->returned != call.returned ||
-        reply->sense_bytes != store_sense_bytes(answer) ||
-        memcmp(sense, call.sense, reply->sense_bytes) != 0 ||
+    if (ask->reply.answer != answer || ask->reply.returned != call.returned ||
+        ask->reply.sense_bytes != store_sense_bytes(answer) ||
+        memcmp(ask->sense, call.sense, ask->reply.sense_bytes) != 0 ||
         memcmp(heard, data_in, (size_t)call.returned) != 0)
         fail("an answer that is not the store's", "");
     counts.answered++;
     counts.changes += !store_same(&was, &copy);
 }
 
-/* A request of which the kernel did not take every byte cannot have been
-   carried out. */
-static enum outcome ask(const struct store_call *call)
+static enum outcome ask_it(const struct store_call *call)
 {
-    struct wire wire;
-    struct wire_reply reply;
-    uint8_t sense[STORE_SENSE_BYTES];
-    enum outcome outcome = NOT_SENT;
-    int connection = connect_to_server();
-    if (connection < 0)
-        return NOT_SENT;
-    wire_begin(&wire, connection, WIRE_TOOL_SECONDS);
-    if (send_call(&wire, call)) {
-        outcome = UNANSWERED;
-        if (receive_reply(&wire, &reply, sense)) {
-            hold_to_copy(call, &reply, sense);
-            outcome = ANSWERED;
-        }
-    }
-    close(connection);
-    if (outcome != ANSWERED && !killed)
+    struct ask ask = {
+        .request = {.nexus = (uint32_t)call->nexus,
+                    .cdb_bytes = (uint32_t)call->cdb_bytes,
+                    .data_out_bytes = (uint32_t)call->data_out_bytes,
+                    .data_in_bytes = (uint32_t)call->data_in_bytes},
+        .cdb = call->cdb, .data_out = call->data_out, .data_in = heard};
+    enum ask_outcome outcome = ask_server(socket_path, &ask);
+    if (outcome == ASK_NO_REPLY)
+        fail("a reply that is none", "");
+    if (outcome != ASK_ANSWERED && !killed)
         fail("a command was not answered, and nobody killed the server", "");
-    return outcome;
+    if (outcome == ASK_ANSWERED) {
+        hold_to_copy(call, &ask);
+        return ANSWERED;
+    }
+    return outcome == ASK_UNANSWERED ? UNANSWERED : NOT_SENT;
 }
 
 /* ---- the commands ---- */
@@ -383,7 +334,7 @@ static enum outcome load_until_killed(void)
         struct store_call same = call;
         after = copy;
         store_execute(&after, &same);
-        outcome = ask(&call);
+        outcome = ask_it(&call);
         asked++;
     } while (outcome == ANSWERED);
     seconds_a_call = 0.9 * seconds_a_call + 0.1 * (now() - began) / (double)asked;
@@ -395,7 +346,7 @@ static enum outcome probe(void)
     struct store_call probes[3];
     for (int which = 0; which < 3; which++) {
         probes[which] = which == 0 ? read_all() : reservation_in((uint8_t)(which - 1));
-        enum outcome outcome = ask(&probes[which]);
+        enum outcome outcome = ask_it(&probes[which]);
         if (outcome != ANSWERED)
             return outcome == UNANSWERED ? NOT_SENT : outcome;
     }

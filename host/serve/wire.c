@@ -6,6 +6,8 @@
 #include <poll.h>
 #include <string.h>
 
+#include "numbers.h"
+
 static const uint8_t request_kind[4] = {'R', 'D', 'G', 'Q'};
 static const uint8_t reply_kind[4] = {'R', 'D', 'G', 'A'};
 
@@ -90,46 +92,32 @@ int wire_receive(struct wire *wire, uint8_t *bytes, size_t count)
     return 1;
 }
 
-void wire_store(uint8_t *at, uint32_t number)
-{
-    for (int place = 0; place < 4; place++)
-        at[place] = (uint8_t)(number >> (8 * (3 - place)));
-}
-
-uint32_t wire_load(const uint8_t *at)
-{
-    uint32_t number = 0;
-    for (int place = 0; place < 4; place++)
-        number = number << 8 | at[place];
-    return number;
-}
-
 static void store_kind(uint8_t *head, const uint8_t *kind)
 {
     memcpy(head, kind, 4);
-    wire_store(head + 4, WIRE_VERSION);
+    put_number(head + 4, WIRE_VERSION, 4);
 }
 
 static int has_kind(const uint8_t *head, const uint8_t *kind)
 {
-    return memcmp(head, kind, 4) == 0 && wire_load(head + 4) == WIRE_VERSION;
+    return memcmp(head, kind, 4) == 0 && number_at(head + 4, 4) == WIRE_VERSION;
 }
 
 void wire_store_request(uint8_t *head, const struct wire_request *request)
 {
     store_kind(head, request_kind);
-    wire_store(head + 8, request->nexus);
-    wire_store(head + 12, request->cdb_bytes);
-    wire_store(head + 16, request->data_out_bytes);
-    wire_store(head + 20, request->data_in_bytes);
+    put_number(head + 8, request->nexus, 4);
+    put_number(head + 12, request->cdb_bytes, 4);
+    put_number(head + 16, request->data_out_bytes, 4);
+    put_number(head + 20, request->data_in_bytes, 4);
 }
 
 int wire_load_request(const uint8_t *head, struct wire_request *request)
 {
-    request->nexus = wire_load(head + 8);
-    request->cdb_bytes = wire_load(head + 12);
-    request->data_out_bytes = wire_load(head + 16);
-    request->data_in_bytes = wire_load(head + 20);
+    request->nexus = (uint32_t)number_at(head + 8, 4);
+    request->cdb_bytes = (uint32_t)number_at(head + 12, 4);
+    request->data_out_bytes = (uint32_t)number_at(head + 16, 4);
+    request->data_in_bytes = (uint32_t)number_at(head + 20, 4);
     return has_kind(head, request_kind) &&
            request->cdb_bytes <= WIRE_CDB_MOST &&
            request->data_out_bytes <= WIRE_DATA_MOST &&
@@ -139,16 +127,16 @@ int wire_load_request(const uint8_t *head, struct wire_request *request)
 void wire_store_reply(uint8_t *head, const struct wire_reply *reply)
 {
     store_kind(head, reply_kind);
-    wire_store(head + 8, reply->answer);
-    wire_store(head + 12, reply->sense_bytes);
-    wire_store(head + 16, reply->returned);
+    put_number(head + 8, reply->answer, 4);
+    put_number(head + 12, reply->sense_bytes, 4);
+    put_number(head + 16, reply->returned, 4);
 }
 
 int wire_load_reply(const uint8_t *head, struct wire_reply *reply)
 {
-    reply->answer = wire_load(head + 8);
-    reply->sense_bytes = wire_load(head + 12);
-    reply->returned = wire_load(head + 16);
+    reply->answer = (uint32_t)number_at(head + 8, 4);
+    reply->sense_bytes = (uint32_t)number_at(head + 12, 4);
+    reply->returned = (uint32_t)number_at(head + 16, 4);
     return has_kind(head, reply_kind) &&
            reply->sense_bytes <= WIRE_SENSE_MOST &&
            reply->returned <= WIRE_DATA_MOST;

@@ -1,9 +1,9 @@
-/* The wire between the preload library (preload.c, sg_io.c) and the server that
-   holds the store (server.c): a Unix stream socket, one connection per command,
+/* The wire between those who ask (ask.c, for the preload library) and the server
+   that holds the store (server.c): a Unix stream socket, one connection per command,
    so that the server serves one command at a time and no tool can hold the
    store by keeping a device open.
 
-   Numbers are 4 bytes, most significant first, as everywhere in this store.
+   Numbers are 4 bytes, most significant first.
 
    Request, from the tool:            Reply, from the server:
      0-3    RDGQ                        0-3    RDGA
@@ -69,9 +69,6 @@ void wire_begin(struct wire *wire, int connection, int seconds);
 /* Both give 1 exactly if every byte went through in time. */
 int wire_send(struct wire *wire, const uint8_t *bytes, size_t count);
 int wire_receive(struct wire *wire, uint8_t *bytes, size_t count);
-
-void wire_store(uint8_t *at, uint32_t number);
-uint32_t wire_load(const uint8_t *at);
 
 /* The heads. Loading gives 1 exactly if kind, version and bounds are right. */
 void wire_store_request(uint8_t *head, const struct wire_request *request);

@@ -1,7 +1,7 @@
-/* The wire between those who ask (ask.c, for the preload library) and the server
-   that holds the store (server.c): a Unix stream socket, one connection per command,
-   so that the server serves one command at a time and no tool can hold the
-   store by keeping a device open.
+/* The wire between those who ask (ask.c, for the preload library) and the
+   server that holds the store (server.c): a Unix stream socket, one connection
+   per command, so that the server serves one command at a time and no tool can
+   hold the store by keeping a device open.
 
    Numbers are 4 bytes, most significant first.
 

@@ -1,0 +1,60 @@
+/* The store as the host programs keep it, behind functions: store.c is the one
+   file of host/serve that knows how ridge.h lays out a store, and how a store
+   is laid out in bytes. */
+#ifndef RIDGE_STORE_H
+#define RIDGE_STORE_H
+
+#include <stddef.h>
+#include <stdint.h>
+
+#include "ridge.h"
+
+enum {
+    /* The layout of a store in bytes that store_pack writes. */
+    STORE_LAYOUT = 1,
+    STORE_SENSE_BYTES = RIDGE_SENSE_BYTES,
+    STORE_BYTES_MOST = 8 + 8 * RIDGE_STATE_WORDS +
+                       (8 + RIDGE_BLOCK_BYTES) * RIDGE_SLOTS
+};
+
+struct store {
+    uint64_t state[RIDGE_STATE_WORDS];
+    uint64_t owners[RIDGE_SLOTS];
+    uint8_t medium[RIDGE_SLOTS * RIDGE_BLOCK_BYTES];
+    size_t slots;
+};
+
+/* One command and the buffers lent to it. `returned` and what lies in data_in
+   and sense afterwards are the store's. */
+struct store_call {
+    uint64_t nexus;
+    const uint8_t *cdb, *data_out;
+    uint8_t *data_in;
+    size_t cdb_bytes, data_out_bytes, data_in_bytes;
+    uint8_t sense[STORE_SENSE_BYTES];
+    uint64_t returned;
+};
+
+/* Gives 1 exactly if the bounds are good; else nothing is made. */
+int store_fresh(struct store *store, uint64_t capacity, uint64_t slots);
+
+/* Gives the answer number. */
+uint64_t store_execute(struct store *store, struct store_call *call);
+
+/* How many sense bytes an answer comes with. */
+size_t store_sense_bytes(uint64_t answer);
+
+uint64_t store_capacity(const struct store *store);
+size_t store_slots(const struct store *store);
+size_t store_slots_used(const struct store *store);
+int store_same(const struct store *one, const struct store *other);
+
+/* Writes the store, at most STORE_BYTES_MOST bytes; gives how many. */
+size_t store_pack(const struct store *store, uint8_t *bytes);
+
+/* Reads a store in a layout. Gives NULL, or the reason why the bytes are none
+   that the proved library would serve. */
+const char *store_unpack(struct store *store, uint32_t layout,
+                         const uint8_t *bytes, size_t count);
+
+#endif

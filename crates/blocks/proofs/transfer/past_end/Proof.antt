@@ -7,7 +7,7 @@ returns : tie.Need-returns
 returns c = range-past _ _ _ (c .if1 .taken)
 
 returns-2 : tie.Need-returns-2
-returns-2 c = range-rest _ _ _ (c .if1 .left)
+returns-2 c = range-rest _ _ _ (c .before .if1 .left)
 
 pub past-end-spec : {M : Type 1} → statement M
 past-end-spec = tie.close (tie.spec returns returns-2)

@@ -1,12 +1,14 @@
 -- The UNMAP parameter list: "The descriptors are taken one after another from the list as lent."
 -- Assumes nothing.
-use mathlib.Core.Bool.{Bool, true, false, _||_}
+use mathlib.Core.Bool.{Bool, true, false, _||_, cond}
 use mathlib.Core.List.{List}
 use Prim.Native.Nat.{ℕ, zero, suc, _+_, _-_, _/_, min}
 use lib.Dec.{ltb}
 use Rattle.fields.specs.Field.{field}
 use Rattle.pool.specs.Pool.{unmapOwners}
 use Rattle.descriptors.specs.declared.Descriptor.{Descriptor}
+use Rattle.descriptors.specs.declared.Failing.{Failing}
+use Rattle.descriptors.specs.declared.Failing.the-variants.{At, Nothing}
 
 -- "16 bytes each: address 0-7, count 8-11": the descriptor from byte `at` of the list on
 unfoldable pub descriptorAt : List ℕ → ℕ → Descriptor
@@ -19,6 +21,21 @@ considered listLength list = min (field 2 2 list) (listLength - 8) / 16
 -- "block address + count > capacity"
 unfoldable pub fails : ℕ → Descriptor → Bool
 fails capacity d = ltb capacity (d .address .0 + d .count)
+
+-- "more than 16 descriptors 5"
+abbrev pub mostDescriptors : ℕ
+mostDescriptors = 16
+
+-- "3 if any descriptor fails": the address of the first that does, in the order of the list, of the n from byte `at` on
+unfoldable pub firstFailing : ℕ → List ℕ → ℕ → ℕ → Failing
+firstFailing capacity list at zero = Nothing
+firstFailing capacity list at (suc n) =
+    cond (fails capacity (descriptorAt list at)) (At (descriptorAt list at .address)) (firstFailing capacity list (at + 16) n)
+
+-- whether one is told
+unfoldable pub isAt : Failing → Bool
+isAt (At address) = true
+isAt Nothing = false
 
 -- "if any descriptor fails", of the n from byte `at` on
 unfoldable pub someFails : ℕ → List ℕ → ℕ → ℕ → Bool

@@ -1,9 +1,13 @@
 // The UNMAP parameter list: its descriptors are taken one after another from the list as lent.
 ghost use mathlib.Core.Path.{_≡_};
 ghost use mathlib.Core.Bool.{false};
-ghost use Prim.Native.Nat.{_≤_, _<_, _^_};
-ghost use Rattle.descriptors.specs.Descriptors.{descriptorAt, considered, fails, someFails, unmapAll};
+ghost use Prim.Native.Nat.{_+_, _≤_, _<_, _^_};
+ghost use Rattle.pool.specs.Pool.{unmapOwners};
+ghost use Rattle.descriptors.specs.Descriptors.{descriptorAt, mostDescriptors, considered, fails, firstFailing, someFails, unmapAll};
 use pool::Lba;
+
+// The most descriptors that one list may have.
+pub const MOST_DESCRIPTORS: usize = 16;
 
 // A range of blocks to unmap.
 pub struct Descriptor {
@@ -15,6 +19,18 @@ pub struct Descriptor {
 pub struct DescriptorReader<'a> {
     list: &'a [u8],
     at: usize,
+}
+
+// A descriptor, and the reader behind it.
+pub struct Taken<'a> {
+    descriptor: Descriptor,
+    rest: DescriptorReader<'a>,
+}
+
+// Which descriptor fails first, by its address.
+pub enum Failing {
+    At(Lba),
+    Nothing,
 }
 
 // The descriptor from a byte of the list on; bytes past the list's end count as 0. The bound keeps the sum of places small.
@@ -37,27 +53,26 @@ fn new<'a>(list: &'a [u8]) -> DescriptorReader<'a>
     DescriptorReader { list, at: 8 }
 }
 
-// The reader at another place.
-fn moved<'a>(r: DescriptorReader<'a>, at: usize) -> DescriptorReader<'a>
-    ensures { λ q. ⌜ (q .list ≡ r .entry .list) × (q .at ≡ at) ⌝ }
-{
-    DescriptorReader { list: r.list, at }
-}
-
-// The descriptor at the reader's place.
-fn next<'a>(r: DescriptorReader<'a>) -> Descriptor
-    requires { ⌜ r .at < 2 ^ 15 ⌝ }
-    ensures { λ d. ⌜ d ≡ descriptorAt (now (r .entry .list)) (r .entry .at) ⌝ }
-{
-    descriptor_at(r.list, r.at)
-}
-
-// What every other function uses: the descriptor at a place of the list, taken by a reader.
-fn take_at(list: &[u8], at: usize) -> Descriptor
+// The byte behind the descriptor at a byte.
+fn past(at: usize) -> usize
     requires { ⌜ at < 2 ^ 15 ⌝ }
-    ensures { λ d. ⌜ d ≡ descriptorAt (now (list .entry)) at ⌝ }
+    ensures { λ r. ⌜ r ≡ at + 16 ⌝ }
 {
-    next(moved(new(list), at))
+    at + 16
+}
+
+// Takes the descriptor at the reader's place, and moves on past it.
+fn next<'a>(reader: DescriptorReader<'a>) -> Taken<'a>
+    requires { ⌜ reader .at < 2 ^ 15 ⌝ }
+    ensures { λ t. ⌜ (t .descriptor ≡ descriptorAt (now (reader .entry .list)) (reader .entry .at)) × ((t .rest .list ≡ reader .entry .list) × (t .rest .at ≡ reader .entry .at + 16)) ⌝ }
+{
+    let descriptor = descriptor_at(reader.list, reader.at);
+    let at = past(reader.at);
+    let rest = DescriptorReader {
+        list: reader.list,
+        at,
+    };
+    Taken { descriptor, rest }
 }
 
 // How many whole descriptors the list's own length and the CDB's list length leave.
@@ -77,48 +92,70 @@ pub fn considered(length: u64, list: &[u8]) -> usize
 }
 
 // Whether a descriptor reaches past the capacity. The sum of address and count is never taken: it could wrap.
-fn fails(capacity: u64, d: Descriptor) -> bool
-    ensures { λ r. ⌜ r ≡ fails capacity d ⌝ }
+fn fails(capacity: u64, descriptor: Descriptor) -> bool
+    ensures { λ r. ⌜ r ≡ fails capacity descriptor ⌝ }
 {
-    let lba = d.address;
+    let lba = descriptor.address;
     let address = lba.0;
     if capacity < address {
         return true;
     }
-    let count = d.count;
-    capacity - address < count
+    let room = capacity - address;
+    let count = descriptor.count;
+    room < count
+}
+
+// Which of the descriptors is the first that reaches past the capacity.
+pub fn first_failing(capacity: u64, list: &[u8], count: usize) -> Failing
+    requires { ⌜ count ≤ mostDescriptors ⌝ }
+    ensures { λ r. ⌜ r ≡ firstFailing capacity (now (list .entry)) 8 count ⌝ }
+{
+    let mut reader = new(list);
+    let mut left = count;
+    while 0 < left {
+        let taken = next(reader);
+        let descriptor = taken.descriptor;
+        if fails(capacity, descriptor) {
+            return Failing::At(descriptor.address);
+        }
+        reader = taken.rest;
+        left -= 1;
+    }
+    Failing::Nothing
 }
 
 // Whether one of the descriptors reaches past the capacity.
 pub fn some_fails(capacity: u64, list: &[u8], count: usize) -> bool
-    requires { ⌜ count ≤ 16 ⌝ }
+    requires { ⌜ count ≤ mostDescriptors ⌝ }
     ensures { λ r. ⌜ r ≡ someFails capacity (now (list .entry)) 8 count ⌝ }
 {
-    let mut at: usize = 8;
-    let mut left = count;
-    while 0 < left {
-        if fails(capacity, take_at(list, at)) {
-            return true;
-        }
-        at += 16;
-        left -= 1;
+    match first_failing(capacity, list, count) {
+        Failing::At(_) => true,
+        Failing::Nothing => false,
     }
-    false
+}
+
+// Unmaps the blocks of one descriptor. The bound keeps the range's end from wrapping.
+fn unmap_one(owners: &mut [u64], descriptor: Descriptor)
+    requires { ⌜ descriptor .address .0 + descriptor .count ≤ 2 ^ 40 ⌝ }
+    ensures { λ _. ⌜ now (owners .exit) ≡ unmapOwners (now (owners .entry)) (descriptor .address .0) (descriptor .count) ⌝ }
+{
+    let address = descriptor.address;
+    let count = descriptor.count;
+    map::unmap::unmap_blocks(owners, address, count);
 }
 
 // Unmaps the blocks of the descriptors, one descriptor after another.
 pub fn unmap_all(owners: &mut [u64], list: &[u8], count: usize, capacity: u64)
-    requires { ⌜ (count ≤ 16) × ((capacity ≤ 2 ^ 40) × (someFails capacity (now list) 8 count ≡ false)) ⌝ }
+    requires { ⌜ (count ≤ mostDescriptors) × ((capacity ≤ 2 ^ 40) × (someFails capacity (now list) 8 count ≡ false)) ⌝ }
     ensures { λ _. ⌜ now (owners .exit) ≡ unmapAll (now (owners .entry)) (now (list .entry)) 8 count ⌝ }
 {
-    let mut at: usize = 8;
+    let mut reader = new(list);
     let mut left = count;
     while 0 < left {
-        let d = take_at(list, at);
-        let lba = d.address;
-        let blocks = d.count;
-        map::unmap::unmap_blocks(owners, lba, blocks);
-        at += 16;
+        let taken = next(reader);
+        unmap_one(owners, taken.descriptor);
+        reader = taken.rest;
         left -= 1;
     }
 }

@@ -15,7 +15,7 @@ number-requires-2 c κs = search needs
 
 returns : tie.Need-returns
 unfolding descriptorAt
-returns c = simp (c .number2 .ensures .0, c .before .number .ensures .0)
+returns c = λ i. record { address = record { 0 = c .before .number .ensures .0 i }; count = c .number2 .ensures .0 i }
 
 pub descriptor-at-spec : {M : Type 1} → statement M
 descriptor-at-spec = tie.close (tie.spec number-requires add-number number-requires-2 returns)

@@ -3,9 +3,9 @@ use libc::STDIN_FILENO;
 use libc::STDOUT_FILENO;
 
 fn main() {
-    let mut buffer = [0u8; 65537];
+    let mut buffer = [0u8; contents::MOST_BYTES + 1];
     let n = io::read_full(STDIN_FILENO, &mut buffer);
-    let mut out = [0u8; 4096];
+    let mut out = [0u8; sheet::OUT];
     let end = sheet::run(&buffer[..n], &mut out);
     io::write_all(STDOUT_FILENO, &out[..end]);
 }

@@ -64,7 +64,8 @@ fn past(at: usize) -> usize
 // Takes the descriptor at the reader's place, and moves on past it.
 fn next<'a>(reader: DescriptorReader<'a>) -> Taken<'a>
     requires { ⌜ reader .at < 2 ^ 15 ⌝ }
-    ensures { λ t. ⌜ (t .descriptor ≡ descriptorAt (now (reader .entry .list)) (reader .entry .at)) × ((t .rest .list ≡ reader .entry .list) × (t .rest .at ≡ reader .entry .at + 16)) ⌝ }
+    ensures { λ t. ⌜ (t .descriptor ≡ descriptorAt (now (reader .entry .list)) (reader .entry .at))
+        × ((t .rest .list ≡ reader .entry .list) × (t .rest .at ≡ reader .entry .at + 16)) ⌝ }
 {
     let descriptor = descriptor_at(reader.list, reader.at);
     let at = past(reader.at);

@@ -1,48 +1,46 @@
 -- Laws of the calls of a sheet: a fresh store, a call as the lent parts make it, and one turn of the loop over the calls.
 -- Assumes nothing.
 use mathlib.Core.Path.{_≡_, refl, sym, ap, _∙_}
-use mathlib.Core.Bool.{Bool, true, false, _&&_, false≢true}
-use mathlib.Core.List.{List, [], _∷_, _++_}
-use Prim.Native.Nat.{ℕ, zero, suc, _+_, _-_, _*_, _^_, _≤_, _<_}
-use native.Mathlib.Nat.{add-sub-cancel-left, zero-add, add-zero, add-assoc, sub-zero}
+use mathlib.Core.Bool.{true, false}
+use mathlib.Core.List.{List, [], _++_}
+use Prim.Native.Nat.{ℕ, suc, _+_, _-_, _*_, _≤_, _<_}
+use native.Mathlib.Nat.{add-sub-cancel-left, add-zero, add-assoc, sub-zero}
 use native.Mathlib.Numerals.{add-one}
 use native.Mathlib.Omega.{arith}
-use lib.Dec.{T, leb, eqb}
 use lib.ListN.{length, take, drop, replicate, length-append, length-replicate}
-use borrow.Author.Tests.{leb-true, eqb-true}
 use Rattle.fields.specs.Bytes.{part, put, zeros}
 use Rattle.fields.proofs.BytesLaws.{zeros-replicate, put-next, put-none}
 use Rattle.answers.specs.declared.Answer.the-variants.{Good}
-use Rattle.answers.specs.Order.{first, ifGood, firstOf, ifGoodBy, refuses}
+use Rattle.answers.specs.Order.{firstOf, ifGoodBy, refuses}
 use Rattle.pool.specs.Valid.{capacityOk, slotsOk}
 use Rattle.store.specs.declared.Unit.{Unit}
-use Rattle.store.specs.Store.{Store, Call, Seen, Result}
+use Rattle.store.specs.Store.{Store, Call, Result}
 use Rattle.store.specs.Step.{step}
-use Rattle.store.specs.Fresh.{FreshResult, fresh, freshAnswer, freshUnit, freshStore}
+use Rattle.store.specs.Fresh.{fresh, freshAnswer, freshUnit, freshStore}
 use Rattle.reply.specs.Contract.{storeOf, callOf}
-use Rattle.sheet.specs.Sheet.{calls, nexusOf, cdbLength, outLength, bodyEnd, bodiesEnd, bodiesBegin, goodSheet, callAt}
-use Rattle.sheet.specs.Printed.{heading, badSheet, seenLine, linesFrom, benchStore, linesOf, printed}
-use Rattle.sheet.specs.Put.{Puts}
-use Rattle.sheet.proofs.Turns.{bodies-turn}
+use Rattle.contents.specs.Contents.{calls, nexusOf, cdbLength, outLength, bodyEnd, bodiesBegin, goodSheet}
+use Rattle.sheet.specs.Sheet.{dataInBytes, callAt}
+use Rattle.sheet.specs.Printed.{capacity, slots, heading, badSheet, seenLine, linesFrom, benchStore, linesOf, printed}
+use Rattle.text.specs.Puts.{Puts}
 use Rattle.sheet.proofs.Returned.{returned-fits}
 
--- ---- a fresh store of 8 blocks and 2 slots
+-- ---- a fresh store
 
-pub fresh-is : (owners : List ℕ) → length owners ≡ 2 → fresh 8 owners ≡ record { answer = Good; unit = freshUnit 8; owners = zeros 2 }
+pub fresh-is : (owners : List ℕ) → length owners ≡ slots → fresh capacity owners ≡ record { answer = Good; unit = freshUnit capacity; owners = zeros slots }
 unfolding fresh freshAnswer firstOf ifGoodBy capacityOk slotsOk refuses
 fresh-is owners e = rw e
 
-pub fresh-store : (unit : Unit) (owners medium : List ℕ) → unit ≡ freshUnit 8 → owners ≡ zeros 2 → medium ≡ replicate 1024 0
+pub fresh-store : (unit : Unit) (owners medium : List ℕ) → unit ≡ freshUnit capacity → owners ≡ zeros slots → medium ≡ replicate (512 * slots) 0
     → storeOf unit owners medium ≡ benchStore
 unfolding benchStore freshStore
-fresh-store unit owners medium d e q = rw (d, e, q, ← zeros-replicate 1024)
+fresh-store unit owners medium d e q = rw (d, e, q, ← zeros-replicate (512 * slots))
 
 -- ---- a call
 
 pub call-is : (sheet : List ℕ) (i at nexus a b : ℕ) → nexus ≡ nexusOf sheet i → a ≡ cdbLength sheet i → b ≡ outLength sheet i
-    → callOf nexus (take (at + a - at) (drop at sheet)) (take (at + a + b - (at + a)) (drop (at + a) sheet)) (replicate 4096 0) (replicate 18 0) ≡ callAt sheet i at
+    → callOf nexus (take (at + a - at) (drop at sheet)) (take (at + a + b - (at + a)) (drop (at + a) sheet)) (replicate dataInBytes 0) (replicate 18 0) ≡ callAt sheet i at
 unfolding callAt part
-call-is sheet i at nexus a b p q r = rw (add-sub-cancel-left at a, add-sub-cancel-left (at + a) b, p, q, r, ← zeros-replicate 4096, ← zeros-replicate 18)
+call-is sheet i at nexus a b p q r = rw (add-sub-cancel-left at a, add-sub-cancel-left (at + a) b, p, q, r, ← zeros-replicate dataInBytes, ← zeros-replicate 18)
 
 -- what comes of it, for the call that the sheet says
 module _ (s : Store) (c d : Call) (x : Result) (e : x ≡ step s c) (q : c ≡ d) where
@@ -52,59 +50,10 @@ module _ (s : Store) (c d : Call) (x : Result) (e : x ≡ step s c) (q : c ≡ d
   pub served-line : (call : ℕ) → seenLine call (x .seen) ≡ seenLine call (step s d .seen)
   served-line call = ap (λ (y : Result). seenLine call (y .seen)) (e ∙ ap (step s) q)
 
-pub returned-most : (s : Store) (nexus : ℕ) (cdb dataOut sense : List ℕ) (x : Result) → x ≡ step s (callOf nexus cdb dataOut (replicate 4096 0) sense)
-    → x .seen .returned ≤ 4096
+pub returned-most : (s : Store) (nexus : ℕ) (cdb dataOut sense : List ℕ) (x : Result) → x ≡ step s (callOf nexus cdb dataOut (replicate dataInBytes 0) sense)
+    → x .seen .returned ≤ dataInBytes
 returned-most s nexus cdb dataOut sense x e =
-    rw e (rw (length-replicate {A = ℕ} 4096 0) at (returned-fits s (callOf nexus cdb dataOut (replicate 4096 0) sense)))
-
--- ---- what a good sheet says of its bodies
-
-and-true-l : (a b : Bool) → (a && b) ≡ true → a ≡ true
-and-true-l true b e = refl
-and-true-l false b e = e
-
-and-true-r : (a b : Bool) → (a && b) ≡ true → b ≡ true
-and-true-r true b e = e
-and-true-r false b e = absurd (false≢true e)
-
-module _ (sheet : List ℕ) (good : goodSheet sheet ≡ true) where
-  pub good-end : bodiesEnd sheet 0 (calls sheet) (bodiesBegin sheet) ≡ length sheet
-  unfolding goodSheet
-  good-end = eqb-true _ _ (and-true-r (leb 1 (length sheet) && leb (length sheet) 65536 && leb (calls sheet) 32) _ good)
-
-  pub good-calls : calls sheet ≤ 32
-  unfolding goodSheet
-  good-calls =
-      leb-true _ _
-      (and-true-r (leb 1 (length sheet) && leb (length sheet) 65536) _
-      (and-true-l _ (eqb (bodiesEnd sheet 0 (calls sheet) (bodiesBegin sheet)) (length sheet)) good))
-
-  pub good-length : length sheet ≤ 65536
-  unfolding goodSheet
-  good-length =
-      leb-true _ _
-      (and-true-r (leb 1 (length sheet)) _
-      (and-true-l _ (leb (calls sheet) 32)
-      (and-true-l _ (eqb (bodiesEnd sheet 0 (calls sheet) (bodiesBegin sheet)) (length sheet)) good)))
-
--- the bodies lie one behind the other
-pub bodies-rise : (sheet : List ℕ) (i n at : ℕ) → at ≤ bodiesEnd sheet i n at
-unfolding bodiesEnd bodyEnd
-bodies-rise sheet i zero at = omega arith
-bodies-rise sheet i (suc n) at = omega (arith, bodies-rise sheet (suc i) n (at + (cdbLength sheet i + outLength sheet i)))
-
-module _ (sheet : List ℕ) (i n at : ℕ) (end : bodiesEnd sheet i (n - i) at ≡ length sheet) where
-  pub body-begins : at ≤ length sheet
-  body-begins = omega (arith, end, bodies-rise sheet i (n - i) at)
-
-  pub body-ends : i < n → bodyEnd sheet i at ≤ length sheet
-  body-ends h =
-      omega
-      (arith, end, bodies-turn sheet i n at (bodyEnd sheet i at) h refl, bodies-rise sheet (i + 1) (n - (i + 1)) (bodyEnd sheet i at))
-
-pub bodies-begin : (sheet : List ℕ) (n : ℕ) → goodSheet sheet ≡ true → n ≡ calls sheet → bodiesEnd sheet 0 (n - 0) (1 + 4 * n) ≡ length sheet
-unfolding bodiesBegin
-bodies-begin sheet n good e = rw (sub-zero n, e) (good-end sheet good)
+    rw e (rw (length-replicate {A = ℕ} dataInBytes 0) at (returned-fits s (callOf nexus cdb dataOut (replicate dataInBytes 0) sense)))
 
 -- ---- the lines that are still to come: what is put and what is to come make the whole
 
@@ -155,7 +104,3 @@ printed-good sheet e = rw e
 pub printed-bad : (sheet : List ℕ) → goodSheet sheet ≡ false → badSheet ≡ printed sheet
 unfolding printed
 printed-bad sheet e = rw e
-
--- from the buffer's first byte on, the place behind is the length
-pub behind-first : {text l after : List ℕ} {end : ℕ} → Puts text l 0 after end → end ≡ length text
-behind-first {text} p = p .behind ∙ zero-add (length text)

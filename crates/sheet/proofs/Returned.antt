@@ -1,18 +1,17 @@
 -- What a call returns fits the buffer that is lent for it: "12 … data-in [shorter] than the bytes returned".
 -- Assumes nothing.
-use mathlib.Core.Path.{_≡_, refl, sym, ap, _∙_, subst}
+use mathlib.Core.Path.{_≡_, refl, sym, _∙_}
 use mathlib.Core.Bool.{Bool, true, false, cond}
-use mathlib.Core.List.{List, [], _∷_, _++_}
-use Prim.Native.Nat.{ℕ, zero, suc, _+_, _*_, _≤_, min}
+use mathlib.Core.List.{List, _++_}
+use Prim.Native.Nat.{ℕ, zero, suc, _*_, _≤_}
 use native.Mathlib.Omega.{arith}
-use lib.Dec.{T, ltb}
-use lib.ListN.{length, take, drop, length-append, length-take}
+use lib.ListN.{length, length-append, length-take}
 use borrow.Author.Tests.{ltb-false}
 use Rattle.fields.specs.Bytes.{part, zeros}
 use Rattle.fields.proofs.BytesLaws.{length-zeros}
 use Rattle.answers.specs.declared.Answer.{Answer}
 use Rattle.answers.specs.declared.Answer.the-variants.{Good, Refused, Conflict, Unusable, Short}
-use Rattle.answers.specs.Order.{Row, _if_, first, ifGood, ifGoodBy, refuses, refusing, refusingBy}
+use Rattle.answers.specs.Order.{first, ifGood, ifGoodBy, refuses, refusingBy}
 use Rattle.answers.proofs.OrderLaws.{row-fails, rows-after, first-append, next-second}
 use Rattle.pool.specs.Pool.{Pool, mapped, place, readBlock, readBlocks}
 use Rattle.forms.specs.declared.Move.the-variants.{Read, Write, Unmap}
@@ -22,7 +21,7 @@ use Rattle.forms.specs.declared.Form.{Form}
 use Rattle.forms.specs.Forms.{formOf, addressOf, sizeOf}
 use Rattle.forms.specs.Tests.{formRows}
 use Rattle.store.specs.Store.{Store, Call, seenOf}
-use Rattle.store.specs.Tell.{told, tellRows}
+use Rattle.store.specs.Tell.{tellRows}
 use Rattle.store.specs.Move.{moveRows, rangeRows, fetched}
 use Rattle.forms.proofs.Refusing.{form-refusing}
 use Rattle.store.specs.Step.{callRows, storeRows, ownRows, answerBy, dataBy, stepBy, step}

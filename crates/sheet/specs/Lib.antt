@@ -1,4 +1,3 @@
-pub mod Put
 pub mod Sheet
-pub mod Line
 pub mod Printed
+pub mod Leaves

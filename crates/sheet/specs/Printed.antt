@@ -1,16 +1,22 @@
 -- What a call sheet prints: "A bench program, fresh store of capacity 8 and 2 slots, 4,096 bytes of data-in, reads a call sheet".
 -- Assumes nothing.
-use mathlib.Core.Path.{_≡_}
-use mathlib.Core.Bool.{Bool, true, false, cond}
+use mathlib.Core.Bool.{cond}
 use mathlib.Core.List.{List, [], _∷_, _++_}
-use Prim.Native.Nat.{ℕ, zero, suc, _+_}
+use Prim.Native.Nat.{ℕ, zero, suc, _*_}
 use Rattle.fields.specs.Bytes.{zeros}
-use Rattle.store.specs.Store.{Store, Call, Seen, Result}
+use Rattle.store.specs.Store.{Store, Seen}
 use Rattle.store.specs.Step.{step}
 use Rattle.store.specs.Fresh.{freshStore}
-use Rattle.sheet.specs.Sheet.{calls, bodyEnd, bodiesBegin, goodSheet, callAt}
-use Rattle.sheet.specs.Line.{lineOf}
-use Rattle.sheet.specs.Put.{Puts}
+use Rattle.contents.specs.Contents.{calls, bodyEnd, bodiesBegin, goodSheet}
+use Rattle.lines.specs.Line.{lineOf}
+use Rattle.sheet.specs.Sheet.{callAt}
+
+-- "fresh store of capacity 8 and 2 slots"
+abbrev pub capacity : ℕ
+capacity = 8
+
+abbrev pub slots : ℕ
+slots = 2
 
 -- "call,answer,status,sense,length,data" and a line feed
 unfoldable pub heading : List ℕ
@@ -37,9 +43,9 @@ linesFrom s sheet i (suc n) at =
     seenLine (suc i) (step s (callAt sheet i at) .seen)
     ++ linesFrom (step s (callAt sheet i at) .store) sheet (suc i) n (bodyEnd sheet i at)
 
--- "fresh store of capacity 8 and 2 slots"; its medium begins as zeros
+-- the store that the calls begin with; its medium begins as zeros
 unfoldable pub benchStore : Store
-benchStore = freshStore 8 2 (zeros 1024)
+benchStore = freshStore capacity slots (zeros (512 * slots))
 
 -- the lines of all calls
 unfoldable pub linesOf : List ℕ → List ℕ
@@ -47,8 +53,3 @@ linesOf sheet = linesFrom benchStore sheet 0 (calls sheet) (bodiesBegin sheet)
 
 unfoldable pub printed : List ℕ → List ℕ
 printed sheet = cond (goodSheet sheet) (heading ++ linesOf sheet) badSheet
-
--- what serving a call leaves, where its step is x: the store, and its line in a lent buffer
-pub record Serves (call : ℕ) (x : Result) (store : Store) (before : List ℕ) (at : ℕ) (after : List ℕ) (end : ℕ) : Type 0 where
-  pub left : store ≡ x .store
-  pub line : Puts (seenLine call (x .seen)) before at after end

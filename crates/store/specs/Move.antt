@@ -10,7 +10,7 @@ use Rattle.answers.specs.Answers.{outOfRange, listLength, listField, noRoom}
 use Rattle.answers.specs.Order.{Row, _if_}
 use Rattle.pool.specs.Bounds.{blockBytes}
 use Rattle.pool.specs.Pool.{Pool, readBlocks, writeBlocks, roomFor}
-use Rattle.descriptors.specs.Descriptors.{considered, someFails, unmapAll}
+use Rattle.descriptors.specs.Descriptors.{mostDescriptors, considered, someFails, unmapAll}
 use Rattle.rights.specs.declared.Access.{Access}
 use Rattle.rights.specs.declared.Access.the-variants.{Reads, Writes}
 use Rattle.rights.specs.Conflict.{conflict}
@@ -46,7 +46,7 @@ rangeRows f Write capacity p c =
 rangeRows f Unmap capacity p c =
     listLength if (leb 1 (listLengthOf f (c .cdb)) && leb (listLengthOf f (c .cdb)) 7)
     ∷ Short if ltb (length (c .dataOut)) (listLengthOf f (c .cdb))
-    ∷ listField if ltb 16 (considered (listLengthOf f (c .cdb)) (c .dataOut))
+    ∷ listField if ltb mostDescriptors (considered (listLengthOf f (c .cdb)) (c .dataOut))
     ∷ outOfRange if someFails capacity (c .dataOut) 8 (considered (listLengthOf f (c .cdb)) (c .dataOut))
     ∷ []
 

@@ -4,7 +4,8 @@ use Prim.Native.Nat.{ℕ}
 use native.Mathlib.Omega.{arith}
 use lib.ListN.{length-replicate}
 use borrow.Author.Needs.{needs}
-use Rattle.sheet.proofs.PutLaws.{within, counted}
+use Rattle.sheet.specs.Leaves.{outBytes}
+use Rattle.text.proofs.PutsLaws.{within, counted}
 use Rattle.bench.proofs.main.Statement.{statement}
 use Rattle.bench.proofs.main.Tie as tie
 
@@ -25,11 +26,11 @@ run-requires c κs = search needs
 
 array-share-prefix-out : tie.Need-array-share-prefix-out
 array-share-prefix-out c =
-    let r = c .run .ensures in within _ _ _ _ (r .0) (omega (arith, r .2, length-replicate {A = ℕ} 4096 0))
+    let r = c .run .ensures in within _ _ _ _ (r .0) (omega (arith, r .2, length-replicate {A = ℕ} outBytes 0))
 
 slice-aggregate-write-all : tie.Need-slice-aggregate-write-all
 slice-aggregate-write-all c =
-    let r = c .before .run .ensures in counted _ _ _ _ (r .0) (omega (arith, r .2, length-replicate {A = ℕ} 4096 0))
+    let r = c .before .run .ensures in counted _ _ _ _ (r .0) (omega (arith, r .2, length-replicate {A = ℕ} outBytes 0))
 
 write-all-requires : tie.Need-write-all-requires
 write-all-requires c κs = search needs

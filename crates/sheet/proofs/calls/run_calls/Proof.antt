@@ -1,21 +1,23 @@
 -- `run_calls`: the lines that are put and those to come are all lines.
 -- Assumes nothing.
-use mathlib.Core.Path.{_≡_, refl, _∙_}
+use mathlib.Core.Path.{_≡_, refl, sym, _∙_}
 use Prim.Native.Nat.{_+_, _-_, _*_, _≤_}
 use native.Mathlib.Omega.{arith}
 use lib.ListN.{length}
 use borrow.Author.Needs.{needs}
 use Rattle.reply.specs.Contract.{storeOf}
-use Rattle.sheet.specs.Printed.{linesFrom, linesOf}
-use Rattle.sheet.specs.Sheet.{bodiesEnd}
-use Rattle.sheet.proofs.CallLaws.{fresh-store, good-calls, good-length, body-begins, body-ends, bodies-begin, ToCome, come-begin, come-turn, come-done}
-use Rattle.sheet.proofs.Turns.{bodies-turn}
+use Rattle.sheet.specs.Printed.{slots, linesFrom, linesOf}
+use Rattle.contents.specs.Contents.{mostCalls, bodiesEnd}
+use Rattle.contents.proofs.GoodLaws.{good-calls, good-length, body-begins, body-ends, bodies-begin}
+use Rattle.contents.proofs.Turns.{bodies-turn}
+use Rattle.lines.specs.Most.{lineMost}
+use Rattle.sheet.proofs.CallLaws.{fresh-store, ToCome, come-begin, come-turn, come-done}
 use Rattle.sheet.proofs.calls.run_calls.Statement.{statement}
 use Rattle.sheet.proofs.calls.run_calls.Tie as tie
 
 abbrev Inv-loop : tie.InvT-loop
 Inv-loop sheet out₀ start owners₀ medium₀ unit₀ end₀ n at₀ i₀ out owners medium unit end at i =
-    (i ≤ n) × (length owners ≡ 2) × (length medium ≡ 1024) × (length out ≡ length out₀) × (end ≤ start + 90 * i)
+    (i ≤ n) × (length owners ≡ slots) × (length medium ≡ 512 * slots) × (length out ≡ length out₀) × (end ≤ start + lineMost * i)
     × (bodiesEnd sheet i (n - i) at ≡ length sheet)
     × (ToCome (linesOf sheet) out₀ start (linesFrom (storeOf unit owners medium) sheet i (n - i) at) out end)
 
@@ -23,13 +25,13 @@ abbrev μ-loop : tie.MeasureT-loop
 μ-loop sheet out₀ start owners₀ medium₀ unit₀ end₀ n at₀ i₀ out owners medium unit end at i = n - i
 
 slice-aggregate-fresh-unit : tie.Need-slice-aggregate-fresh-unit Inv-loop μ-loop
-slice-aggregate-fresh-unit c = search needs
+slice-aggregate-fresh-unit c = refl
 
 fresh-unit-requires : tie.Need-fresh-unit-requires Inv-loop μ-loop
-fresh-unit-requires c κs = search needs
+fresh-unit-requires c κs = refl
 
 calls-in-requires : tie.Need-calls-in-requires Inv-loop μ-loop
-calls-in-requires c κs = search needs
+calls-in-requires c κs = tt
 
 mul-at : tie.Need-mul-at Inv-loop μ-loop
 mul-at c = search needs
@@ -51,17 +53,17 @@ loop-holds c =
     )
 
 slice-aggregate-serve : tie.Need-slice-aggregate-serve Inv-loop μ-loop
-slice-aggregate-serve c = search needs
+slice-aggregate-serve c = sym (c .before .before .loop .inv .1)
 
 slice-aggregate-serve-2 : tie.Need-slice-aggregate-serve-2 Inv-loop μ-loop
-slice-aggregate-serve-2 c = search needs
+slice-aggregate-serve-2 c = sym (c .before .before .before .loop .inv .2)
 
 serve-requires : tie.Need-serve-requires Inv-loop μ-loop
 serve-requires c κs =
     let b = c .before .before .before in
     let l = b .before in
     let p = l .before .before .before .before .before .before .before .pre in
-    let n : l .before .calls-in .result ≤ 32 = omega (arith, good-calls _ (p .0), l .before .calls-in .ensures .0) in (
+    let n : l .before .calls-in .result ≤ mostCalls = omega (arith, good-calls _ (p .0), l .before .calls-in .ensures .0) in (
       omega (arith, n, b .loop-test .taken),
       body-ends _ _ _ _ (l .loop .inv .5) (b .loop-test .taken),
       good-length _ (p .0),
@@ -92,9 +94,9 @@ loop-again c =
       search needs,
       search needs,
       search needs,
-      omega (arith, l .loop .inv, s .1),
+      omega (arith, l .loop .inv, s .most),
       bodies-turn _ _ _ _ _ (b .loop-test .taken) e ∙ l .loop .inv .5,
-      come-turn _ _ _ _ _ _ _ _ _ _ _ _ _ _ (b .loop-test .taken) e (s .0 .left) (s .0 .line) (l .loop .inv .6),
+      come-turn _ _ _ _ _ _ _ _ _ _ _ _ _ _ (b .loop-test .taken) e (s .left) (s .line) (l .loop .inv .6),
     )
 
 same-length : tie.Need-same-length Inv-loop μ-loop
@@ -102,10 +104,11 @@ same-length c = search needs
 
 returns : tie.Need-returns Inv-loop μ-loop
 returns c =
-    let l = c .before in (
-      come-done _ _ _ _ _ _ _ _ _ _ (c .loop-test .left) (l .loop .inv .6),
-      omega (arith, good-calls _ (l .before .before .before .before .before .before .before .pre .0), l .before .calls-in .ensures .0, l .loop .inv),
-    )
+    let l = c .before in record {
+      lines = come-done _ _ _ _ _ _ _ _ _ _ (c .loop-test .left) (l .loop .inv .6);
+      most =
+          omega (arith, good-calls _ (l .before .before .before .before .before .before .before .pre .0), l .before .calls-in .ensures .0, l .loop .inv);
+    }
 
 pub run-calls-spec : {M : Type 1} → statement M
 run-calls-spec =

@@ -3,9 +3,9 @@
 use native.Mathlib.Omega.{arith}
 use borrow.Author.Needs.{needs}
 use Rattle.sheet.specs.Printed.{seenLine}
-use Rattle.sheet.specs.Sheet.{bodyEnd}
+use Rattle.contents.specs.Contents.{bodyEnd}
 use Rattle.sheet.proofs.CallLaws.{call-is, served-store, served-line, returned-most}
-use Rattle.sheet.proofs.PutLaws.{puts-as}
+use Rattle.text.proofs.PutsLaws.{puts-as}
 use Rattle.sheet.proofs.calls.serve.Statement.{statement}
 use Rattle.sheet.proofs.calls.serve.Tie as tie
 
@@ -87,7 +87,7 @@ returns c =
     let q =
     call-is _ _ (l .before .before .before .before .before .before .before .args .at) _ _ _ (l .before .before .nexus-of .ensures) (l .before .cdb-length .ensures .0) (l .out-length .ensures .0) in
     let p = c .before .before .put-line .ensures in
-    (record { left = served-store _ _ _ _ e q; line = puts-as (served-line _ _ _ _ e q _) (p .0) }, omega (arith, p .1))
+    record { left = served-store _ _ _ _ e q; line = puts-as (served-line _ _ _ _ e q _) (p .0); most = omega (arith, p .1) }
 
 pub serve-spec : {M : Type 1} → statement M
 serve-spec =

@@ -1,0 +1,63 @@
+-- Laws of the line of an outcome: which bytes are shown, and how large the answer's number is.
+-- Assumes nothing.
+use mathlib.Core.Path.{_≡_, refl, sym, ap}
+use mathlib.Core.Bool.{Bool, true, false, cond}
+use mathlib.Core.List.{List, [], _∷_}
+use Prim.Native.Nat.{ℕ, suc, _≤_, min}
+use native.Mathlib.Omega.{arith}
+use native.Mathlib.Nat.{le-of-lt}
+use lib.Dec.{leb}
+use lib.ListN.{length, take, length-take}
+use lib.Seq.{take-all, take-take, length-take-le}
+use borrow.Author.Tests.{leb-true, leb-false}
+use Rattle.answers.specs.declared.Sense.{Sense}
+use Rattle.answers.specs.declared.Answer.{Answer}
+use Rattle.answers.specs.declared.Answer.the-variants.{Good, Refused, Conflict, Unusable, Short}
+use Rattle.answers.specs.Answers.{senses, sameSense, rowOf, numberOf}
+use Rattle.text.specs.Text.{hex}
+use Rattle.lines.specs.Line.{shownBytes, dataText}
+
+-- ---- the first of the bytes returned
+
+module _ (returned n : ℕ) (l : List ℕ) (e : n ≡ min shownBytes returned) where
+  few : returned ≤ shownBytes → take n l ≡ take shownBytes (take returned l)
+  few h =
+      let same : n ≡ returned = omega arith in
+      let short : length (take returned l) ≤ shownBytes = simp length-take (omega arith) in
+      rw same (sym (take-all shownBytes (take returned l) short))
+
+  many : shownBytes ≤ returned → take n l ≡ take shownBytes (take returned l)
+  many h = let same : n ≡ shownBytes = omega arith in rw same (sym (take-take shownBytes returned l h))
+
+  either : (b : Bool) → leb shownBytes returned ≡ b → take n l ≡ take shownBytes (take returned l)
+  either true t = many (leb-true shownBytes returned t)
+  either false t = few (le-of-lt (leb-false shownBytes returned t))
+
+  pub data-shown : hex (take n l) ≡ dataText returned l
+  unfolding dataText
+  data-shown = ap hex (either (leb shownBytes returned) refl)
+
+  pub shown-most : n ≤ shownBytes
+  shown-most = omega arith
+
+  pub shown-length : returned ≤ length l → length (take n l) ≡ n
+  shown-length h = length-take-le n l (omega arith)
+
+-- ---- the answer's number
+
+row-step : (b : Bool) (r n : ℕ) → r ≤ suc n → cond b 1 (suc r) ≤ suc (suc n)
+row-step true r n h = omega arith
+row-step false r n h = omega arith
+
+row-most : (s : Sense) (l : List Sense) → rowOf s l ≤ suc (length l)
+unfolding rowOf
+row-most s [] = omega arith
+row-most s (t ∷ ts) = row-step (sameSense s t) (rowOf s ts) (length ts) (row-most s ts)
+
+pub number-most : (a : Answer) → numberOf a ≤ 12
+unfolding numberOf senses
+number-most Good = omega arith
+number-most (Refused s) = omega (arith, row-most s senses)
+number-most Conflict = omega arith
+number-most Unusable = omega arith
+number-most Short = omega arith

@@ -1,0 +1,14 @@
+-- `shown`: the smaller of the two.
+-- Assumes nothing.
+use native.Mathlib.Omega.{arith}
+use Rattle.lines.proofs.shown.Statement.{statement}
+use Rattle.lines.proofs.shown.Tie as tie
+
+returns : tie.Need-returns
+returns c = omega arith
+
+returns-2 : tie.Need-returns-2
+returns-2 c = omega arith
+
+pub shown-spec : {M : Type 1} → statement M
+shown-spec = tie.close (tie.spec returns returns-2)

@@ -1,0 +1,19 @@
+-- `digit`: the byte of the last digit.
+-- Assumes nothing.
+use borrow.Author.Needs.{needs}
+use Rattle.text.specs.Text.{digit}
+use Rattle.text.proofs.digit.Statement.{statement}
+use Rattle.text.proofs.digit.Tie as tie
+
+cast-result : tie.Need-cast-result
+cast-result c = search needs
+
+add-result : tie.Need-add-result
+add-result c = search needs
+
+returns : tie.Need-returns
+unfolding digit
+returns c = search needs
+
+pub digit-spec : {M : Type 1} → statement M
+digit-spec = tie.close (tie.spec cast-result add-result returns)

@@ -6,15 +6,15 @@ ghost use Rattle.answers.specs.Answers.{noPlace};
 ghost use Rattle.rights.specs.declared.Action.the-variants.{Register, Reserve, Release, Clear, Preempt, RegisterIgnoring};
 ghost use Rattle.rights.specs.Actions.{stranger, crowded, registering, preempting, decided};
 ghost use Rattle.actions.specs.Decided.{decidedBy};
-use rights::Action;
-use rights::Decision;
-use rights::Parameters;
-use rights::Rights;
+use answers::Answer;
 use reservations::places;
 use reservations::places::Change;
 use reservations::places::Want;
 use reservations::standing;
-use answers::Answer;
+use rights::Action;
+use rights::Decision;
+use rights::Parameters;
+use rights::Rights;
 
 // What a reservation-out call decides.
 pub fn decide(action: Action, rights: Rights, nexus: u8, parameters: Parameters) -> Decision

@@ -5,7 +5,6 @@ use mathlib.Core.List.{List}
 use Rattle.order.specs.Order.{Row as RowOf, OneGood}
 use Rattle.answers.specs.declared.Answer.{Answer}
 use Rattle.answers.specs.declared.Answer.the-variants.{Good, Refused, Conflict, Unusable, Short}
-
 pub use Rattle.order.specs.Order.{_if_}
 unfoldable pub use Rattle.order.specs.Order.{firstOf, nextBy, ifGoodBy, refusingBy}
 

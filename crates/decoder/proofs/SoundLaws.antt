@@ -45,4 +45,3 @@ sound-of cdb = sound-for (byte 0 cdb) (action cdb)
 
 pub size-below : (w x : ℕ) → w ≤ 4 → x < 256 ^ w → x < 2 ^ 32
 size-below w x h k = lt-of-lt-of-le k (pow-le-pow-right (lit< tt) h)
-

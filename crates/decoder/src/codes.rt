@@ -1,8 +1,8 @@
 // The row of each operation code and service action.
 ghost use mathlib.Core.Path.{_≡_};
 ghost use Rattle.forms.specs.Forms.{span, absent, form, formFor};
-use forms::Form;
 use forms::Command;
+use forms::Form;
 use forms::Move;
 use forms::Span;
 use forms::Tell;

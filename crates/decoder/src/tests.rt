@@ -8,11 +8,11 @@ ghost use Rattle.forms.specs.declared.Form.{Form as FormOf};
 ghost use Rattle.forms.specs.declared.Command.the-variants.{Tells, Moves, Alters};
 ghost use Rattle.decoder.specs.Sound.{Sound};
 ghost use Rattle.forms.specs.Tests.{isUnlisted, inquiryRows, transferRows, unmapRows, typeRows, fieldRows};
-use forms::Form;
+use answers::Answer;
 use forms::Command;
+use forms::Form;
 use forms::Move;
 use forms::Tell;
-use answers::Answer;
 use pool::MOST_TRANSFER;
 use rights::Action;
 

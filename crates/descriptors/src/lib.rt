@@ -2,6 +2,7 @@
 ghost use mathlib.Core.Path.{_≡_};
 ghost use mathlib.Core.Bool.{false};
 ghost use Prim.Native.Nat.{_+_, _≤_, _<_, _^_};
+ghost use Rattle.pool.specs.Bounds.{mostBlocks};
 ghost use Rattle.pool.specs.Pool.{unmapOwners};
 ghost use Rattle.descriptors.specs.Descriptors.{descriptorAt, mostDescriptors, considered, fails, firstFailing, someFails, unmapAll};
 use pool::Lba;
@@ -138,7 +139,7 @@ pub fn some_fails(capacity: u64, list: &[u8], count: usize) -> bool
 
 // Unmaps the blocks of one descriptor. The bound keeps the range's end from wrapping.
 fn unmap_one(owners: &mut [u64], descriptor: Descriptor)
-    requires { ⌜ descriptor .address .0 + descriptor .count ≤ 2 ^ 40 ⌝ }
+    requires { ⌜ descriptor .address .0 + descriptor .count ≤ mostBlocks ⌝ }
     ensures { λ _. ⌜ now (owners .exit) ≡ unmapOwners (now (owners .entry)) (descriptor .address .0) (descriptor .count) ⌝ }
 {
     let address = descriptor.address;
@@ -148,7 +149,7 @@ fn unmap_one(owners: &mut [u64], descriptor: Descriptor)
 
 // Unmaps the blocks of the descriptors, one descriptor after another.
 pub fn unmap_all(owners: &mut [u64], list: &[u8], count: usize, capacity: u64)
-    requires { ⌜ (count ≤ mostDescriptors) × ((capacity ≤ 2 ^ 40) × (someFails capacity (now list) 8 count ≡ false)) ⌝ }
+    requires { ⌜ (count ≤ mostDescriptors) × ((capacity ≤ mostBlocks) × (someFails capacity (now list) 8 count ≡ false)) ⌝ }
     ensures { λ _. ⌜ now (owners .exit) ≡ unmapAll (now (owners .entry)) (now (list .entry)) 8 count ⌝ }
 {
     let mut reader = new(list);

@@ -63,10 +63,14 @@ block-is : (o m : List ℕ) (a : ℕ) → slotBytes m (length o) (place (suc a) 
 unfolding slotBytes readBlock mapped
 block-is o m a = rw (below-is (suc a) o)
 
-pub readPlaces-is : (o m : List ℕ) (a n : ℕ) → readPlaces m (length o) (places o a n) ≡ readBlocks (pool o m) a n
+readPlaces-is : (o m : List ℕ) (a n : ℕ) → readPlaces m (length o) (places o a n) ≡ readBlocks (pool o m) a n
 unfolding readPlaces readBlocks places
 readPlaces-is o m a zero = refl
 readPlaces-is o m a (suc n) = rw (block-is o m a, readPlaces-is o m (suc a) n)
+
+-- the blocks, read by their index
+pub read-indexed : (o index m : List ℕ) (a n : ℕ) → Indexed o a n index → readPlaces m (length o) (take n index) ≡ readBlocks (pool o m) a n
+read-indexed o index m a n x = ap (readPlaces m (length o)) (x .each) ∙ readPlaces-is o m a n
 
 module _ (m : List ℕ) (slots : ℕ) where
   length-read : length m ≡ blockBytes * slots → (is : List ℕ) → length (readPlaces m slots is) ≡ blockBytes * length is
@@ -121,10 +125,14 @@ module _ (is m bs : List ℕ) (k : ℕ) where
   unfolding putPlaces
   put-end h = ap (λ (l : List ℕ). putPlaces l m (drop (blockBytes * k) bs)) (drop-of-length-le is h)
 
-pub putPlaces-is : (o : List ℕ) (a n : ℕ) (m bs : List ℕ) → putPlaces (places o a n) m bs ≡ putBlocks o m a n bs
+putPlaces-is : (o : List ℕ) (a n : ℕ) (m bs : List ℕ) → putPlaces (places o a n) m bs ≡ putBlocks o m a n bs
 unfolding putPlaces putBlocks places
 putPlaces-is o a zero m bs = refl
 putPlaces-is o a (suc n) m bs = putPlaces-is o (suc a) n (put m (blockBytes * place (suc a) o) (take blockBytes bs)) (drop blockBytes bs)
+
+-- the blocks, put by their index
+pub put-indexed : (o index : List ℕ) (a n : ℕ) (m bs : List ℕ) → Indexed o a n index → putPlaces (take n index) m bs ≡ putBlocks o m a n bs
+put-indexed o index a n m bs x = ap (λ (is : List ℕ). putPlaces is m bs) (x .each) ∙ putPlaces-is o a n m bs
 
 -- ---- giving slots
 

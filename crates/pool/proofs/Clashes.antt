@@ -9,7 +9,7 @@ use Prim.Native.Nat.{ℕ, zero, suc, _+_, _≤_, _<_}
 use native.Mathlib.Omega.{arith}
 use native.Mathlib.Nat.{add-zero, add-suc, suc-add, zero-add}
 use lib.Dec.{T, leb, ltb, T-not, leb→le, le→leb, ltb→lt, nltb→le}
-use lib.ListN.{length, getD}
+use lib.ListN.{getD}
 use Rattle.fields.proofs.Tests.{and-l, and-r, both, by-test, by-equal}
 use Rattle.pool.specs.Pool.{has, place}
 use Rattle.pool.specs.Valid.{within, distinct, mapOk, slot, beyondFrom, againFrom, clashFrom, checked}

@@ -1,12 +1,12 @@
 -- Which slot has which owner number: laws of `place`, `has`, `free`, `fill`, `freed`.
 -- Assumes nothing.
 use mathlib.Core.Path.{_≡_, refl, sym, ap, _∙_}
-use mathlib.Core.Bool.{Bool, true, false, not, _&&_, _||_, cond}
+use mathlib.Core.Bool.{Bool, false, not, _&&_, _||_, cond}
 use mathlib.Core.List.{List, [], _∷_}
 use mathlib.Core.Logic.{_≢_}
 use Prim.Native.Nat.{ℕ, zero, suc, _+_, _≤_, _<_}
 use native.Mathlib.Omega.{arith}
-use borrow.Author.Tests.{eqb-true, eqb-false, ne-eqb}
+use borrow.Author.Tests.{ne-eqb}
 use lib.Dec.{T, eqb, leb, ltb, eqb-refl, leb→le, nleb→lt, ltb→lt, nltb→le}
 use lib.ListN.{length, getD, set}
 use Rattle.fields.specs.Bytes.{zeros}

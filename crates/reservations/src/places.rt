@@ -80,11 +80,19 @@ pub fn key_of(places: [Place; REGISTRATION_PLACES], nexus: u8) -> u64
     ensures { λ r. ⌜ r ≡ keyOf nexus places ⌝ }
 {
     let i = seek(places, Want::Of(nexus));
-    if i < REGISTRATION_PLACES { places[i].key } else { 0 }
+    if i < REGISTRATION_PLACES {
+        places[i].key
+    } else {
+        0
+    }
 }
 
 // The lowest free place given to a nexus.
-pub fn enrol(places: [Place; REGISTRATION_PLACES], nexus: u8, key: u64) -> [Place; REGISTRATION_PLACES]
+pub fn enrol(
+    places: [Place; REGISTRATION_PLACES],
+    nexus: u8,
+    key: u64,
+) -> [Place; REGISTRATION_PLACES]
     ensures { λ r. ⌜ r ≡ enrol nexus key places ⌝ }
 {
     let i = seek(places, Want::Free);

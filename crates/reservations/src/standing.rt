@@ -4,9 +4,9 @@ ghost use Rattle.rights.specs.Rights.{holds, holderKey, stands, rightsOk, held,
 use crate::kinds;
 use crate::places;
 use crate::places::Want;
+use rights::Place;
 use rights::REGISTRATION_PLACES;
 use rights::Rights;
-use rights::Place;
 
 // No registration, no reservation, generation 0.
 pub fn none() -> Rights

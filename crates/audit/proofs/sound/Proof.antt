@@ -2,7 +2,6 @@
 -- Assumes nothing.
 use mathlib.Core.Path.{_∙_, sym}
 use Prim.Native.Nat.{_≤_, _-_}
-use native.Mathlib.Omega.{arith}
 use lib.ListN.{length}
 use Rattle.audit.proofs.Chains.{bucket-below, Passed, passed-none, passed-free, passed-beyond, passed-chain, passed-named, passed-new, passed-all}
 use borrow.Author.Needs.{needs}

@@ -1,15 +1,15 @@
 -- `read_blocks`: the blocks passed are laid over the front of what was lent.
 -- Assumes nothing.
 use mathlib.Core.Path.{_≡_, _∙_, refl, ap}
-use mathlib.Core.List.{List}
-use Prim.Native.Nat.{ℕ, _≤_, _-_}
+use Prim.Native.Nat.{_≤_, _-_}
 use native.Mathlib.Omega.{arith}
 use lib.ListN.{length, take}
 use borrow.Author.Needs.{needs}
 use Rattle.fields.specs.Bytes.{put}
 use Rattle.pool.specs.Bounds.{mostTransfer}
-use Rattle.map.specs.Index.{places, readPlaces}
-use Rattle.map.proofs.Blocks.{read-start, read-turn, readPlaces-is}
+use Rattle.pool.specs.Pool.{pool, readBlocks}
+use Rattle.map.specs.Index.{readPlaces}
+use Rattle.map.proofs.Blocks.{read-start, read-turn, read-indexed}
 use Rattle.map.proofs.read.read_blocks.Statement.{statement}
 use Rattle.map.proofs.read.read_blocks.Tie as tie
 
@@ -73,9 +73,9 @@ returns c =
     let a = c₆ .args in
     let l = c .before .loop in
     let e : l .k ≡ a .count = omega arith in
-    let f : take (l .k) (c .before .before .index-of .result) ≡ places (a .owners .now) (a .lba .0) (a .count) = rw e (c .before .before .index-of .ensures .each) in
-    l .inv .2 ∙ ap (λ (is : List ℕ). put (a .out .now) 0 (readPlaces (a .medium .now) (length (a .owners .now)) is)) f
-    ∙ ap (put (a .out .now) 0) (readPlaces-is (a .owners .now) (a .medium .now) (a .lba .0) (a .count))
+    let f : readPlaces (a .medium .now) (length (a .owners .now)) (take (l .k) (c .before .before .index-of .result)) ≡ readBlocks (pool (a .owners .now) (a .medium .now)) (a .lba .0) (a .count) =
+    rw e (read-indexed (a .owners .now) (c .before .before .index-of .result) (a .medium .now) (a .lba .0) (a .count) (c .before .before .index-of .ensures)) in
+    l .inv .2 ∙ ap (put (a .out .now) 0) f
 
 pub read-blocks-spec : {M : Type 1} → statement M
 read-blocks-spec =

@@ -1,16 +1,13 @@
 -- `write_blocks`: the room is read off the index, which the slots given complete.
 -- Assumes nothing.
-use mathlib.Core.Path.{_≡_, _∙_, ap}
-use mathlib.Core.List.{List}
-use Prim.Native.Nat.{ℕ, _≤_}
+use mathlib.Core.Path.{_∙_}
+use Prim.Native.Nat.{_≤_}
 use native.Mathlib.Omega.{arith}
-use lib.ListN.{length, take}
 use borrow.Author.Needs.{needs}
-use Rattle.pool.specs.Pool.{unmapped, free, assignBlocks}
-use Rattle.map.specs.Index.{places, Indexed, putPlaces}
-use Rattle.pool.specs.Pool.{pool}
+use Rattle.pool.specs.Pool.{pool, unmapped, free, assignBlocks}
+use Rattle.map.specs.Index.{Indexed}
 use Rattle.map.proofs.Indexing.{missing-is}
-use Rattle.map.proofs.Blocks.{putPlaces-is, given-below}
+use Rattle.map.proofs.Blocks.{put-indexed, given-below}
 use Rattle.map.proofs.Trying.{try-full, try-done}
 use Rattle.map.proofs.write.write_blocks.Statement.{statement}
 use Rattle.map.proofs.write.write_blocks.Tie as tie
@@ -87,10 +84,9 @@ returns-2 c =
     let a = c₂₁ .args in
     let e = c₈ .assign-blocks .ensures in
     let m = missing-is (a .owners .now) (c₁₆ .index-of .result) (a .lba .0) (a .count) (c₁₄ .missing-in .result) (c₁₆ .index-of .ensures) (c₁₄ .missing-in .ensures) in
-    let o = assignBlocks (a .owners .now) (a .lba .0) (a .count) in
-    let i : take (a .count) (c₈ .assign-blocks .last .1 .0) ≡ places o (a .lba .0) (a .count) = e .1 .each ∙ ap (λ (l : List ℕ). places l (a .lba .0) (a .count)) (e .0) in
+    let x : Indexed (assignBlocks (a .owners .now) (a .lba .0) (a .count)) (a .lba .0) (a .count) (c₈ .assign-blocks .last .1 .0) = rw (e .0) at (e .1) in
     try-done (pool (a .owners .now) (a .medium .now)) (a .lba .0) (a .count) (a .bytes .now) _ _ (omega (arith, c₁₂ .free-slots .ensures, c₁₁ .if1 .left)) (e .0)
-    ((c .before .before .put-blocks .ensures) ∙ ap (λ (is : List ℕ). putPlaces is (a .medium .now) (a .bytes .now)) i ∙ putPlaces-is o (a .lba .0) (a .count) (a .medium .now) (a .bytes .now))
+    ((c .before .before .put-blocks .ensures) ∙ put-indexed _ _ (a .lba .0) (a .count) (a .medium .now) (a .bytes .now) x)
 
 pub write-blocks-spec : {M : Type 1} → statement M
 write-blocks-spec =

@@ -1,4 +1,5 @@
-// The bench: reads a call sheet from standard input and writes what it prints. One byte more than the longest good sheet is read, so that a longer one is seen to be so.
+// The bench: reads a call sheet from standard input and writes what it prints.
+// One byte more than the longest good sheet is read, so that a longer one is seen to be so.
 use libc::STDIN_FILENO;
 use libc::STDOUT_FILENO;
 

@@ -31,7 +31,8 @@ use Rattle.store.specs.Move.{moveRows, rangeRows, moved, fetched}
 use Rattle.store.specs.Alter.{alterRows}
 use Rattle.store.specs.Step.{callRows, storeRows, ownRows, answerBy, dataBy, storeBy, stepBy, step}
 use Rattle.reply.specs.Contract.{callOf, left}
-use Rattle.commands.specs.Served.{readyFor, servedBy, servedWith, bare}
+use Rattle.readiness.specs.Ready.{readyFor}
+use Rattle.commands.specs.Served.{servedBy, servedWith, bare}
 use Rattle.reply.specs.Reply.{replyOf, Served, served, serves}
 use Rattle.reply.proofs.ReplyLaws.{plain, serving, serves-refused}
 

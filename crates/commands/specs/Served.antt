@@ -1,32 +1,22 @@
--- What the contracts of one call speak of: the tests before any command, and all that a command leaves.
+-- What the contracts of one call speak of: all that a command leaves.
 -- Assumes nothing.
-use mathlib.Core.Bool.{Bool, not, _&&_}
 use mathlib.Core.List.{List, _++_}
 use Prim.Native.Nat.{ℕ}
-use lib.Dec.{eqb, ltb}
-use lib.ListN.{length}
 use Rattle.answers.specs.declared.Answer.{Answer}
 use Rattle.answers.specs.declared.Answer.the-variants.{Unusable}
-use Rattle.answers.specs.Answers.{senseBytes}
 use Rattle.answers.specs.Order.{first}
-use Rattle.rights.specs.Bounds.{lastNexus}
 use Rattle.rights.specs.declared.Decision.{Decision}
 use Rattle.forms.specs.declared.Command.{Command}
 use Rattle.forms.specs.declared.Form.{Form}
 use Rattle.forms.specs.Tests.{formRows}
 use Rattle.store.specs.declared.Unit.{Unit}
-use Rattle.store.specs.Store.{Store, Call, usable}
+use Rattle.store.specs.Store.{Store, Call}
 use Rattle.store.specs.Step.{ownRows, dataBy, storeBy}
 use Rattle.store.specs.Fresh.{freshUnit}
 use Rattle.reply.specs.declared.Reply.{Reply}
 use Rattle.reply.specs.declared.Outcome.{Outcome}
 use Rattle.reply.specs.declared.Made.{Made}
 use Rattle.reply.specs.Reply.{Served, serves}
-
--- nothing refuses the call before its command is looked at
-unfoldable pub readyFor : Store → Call → Bool
-readyFor s c =
-    not (ltb lastNexus (c .nexus)) && (not (eqb (length (c .cdb)) 0) && (not (ltb (length (c .sense)) senseBytes) && usable s))
 
 -- the outcome of a reply
 abbrev pub replying : Reply → Unit → Outcome

@@ -1,5 +1,4 @@
 // One call to the store: the order of tests, and the command that a CDB asks for.
-mod ready;
 mod serve;
 
 ghost use mathlib.Core.Path.{_≡_};
@@ -28,7 +27,7 @@ pub fn execute(
         (storeOf unit (now (owners .entry)) (now (medium .entry)))
         (callOf nexus (now (cdb .entry)) (now («data_out» .entry)) (now («data_in» .entry)) (now (sense .entry))) ⌝ }
 {
-    if ready::ready(unit, owners, medium, nexus, cdb, sense) {
+    if readiness::ready(unit, owners, medium, nexus, cdb, sense) {
         let outcome = serve::serve(unit, owners, medium, nexus, cdb, data_out, data_in);
         let answer = outcome.answer;
         answers::put_sense(answer, sense);
@@ -57,10 +56,10 @@ fn refused() -> Made
 pub fn fresh(capacity: u64, owners: &mut [u64]) -> Made
     ensures { λ r. ⌜ made r (now (owners .exit)) ≡ fresh capacity (now (owners .entry)) ⌝ }
 {
-    if !ready::capacity_ok(capacity) {
+    if !readiness::capacity_ok(capacity) {
         return refused();
     }
-    if !ready::slots_ok(owners.len()) {
+    if !readiness::slots_ok(owners.len()) {
         return refused();
     }
     map::slots::free_all(owners);

@@ -1,3 +1,3 @@
 pub mod Turns
 pub mod Good
-pub mod GoodLaws
+pub mod Bodies

@@ -17,7 +17,8 @@ bodies-more sheet i m n at e = rw (e, sym-suc)
     sym-suc : i + 1 ≡ suc i
     sym-suc = omega arith
 
-pub bodies-turn : (sheet : List ℕ) (i n at end : ℕ) → i < n → end ≡ bodyEnd sheet i at → bodiesEnd sheet (i + 1) (n - (i + 1)) end ≡ bodiesEnd sheet i (n - i) at
+pub bodies-turn : (sheet : List ℕ) (i n at end : ℕ) → i < n → end ≡ bodyEnd sheet i at
+    → bodiesEnd sheet (i + 1) (n - (i + 1)) end ≡ bodiesEnd sheet i (n - i) at
 bodies-turn sheet i n at end h e = rw e (bodies-more sheet i (n - (i + 1)) (n - i) at (omega arith))
 
 pub bodies-done : (sheet : List ℕ) (i n at : ℕ) → n ≤ i → at ≡ bodiesEnd sheet i (n - i) at

@@ -28,6 +28,7 @@ pub fn calls_in(sheet: &[u8]) -> usize
     wide(numbers::byte(sheet, 0))
 }
 
+// The nexus of call i, counted from 0.
 pub fn nexus_of(sheet: &[u8], i: usize) -> u8
     requires { ⌜ i < 256 ⌝ }
     ensures { λ r. ⌜ r ≡ nexusOf (now (sheet .entry)) i ⌝ }
@@ -35,6 +36,7 @@ pub fn nexus_of(sheet: &[u8], i: usize) -> u8
     numbers::byte(sheet, 1 + 4 * i)
 }
 
+// How many bytes the CDB of call i has.
 pub fn cdb_length(sheet: &[u8], i: usize) -> usize
     requires { ⌜ i < 256 ⌝ }
     ensures { λ r. ⌜ (r ≡ cdbLength (now (sheet .entry)) i) × (r < 256) ⌝ }
@@ -42,6 +44,7 @@ pub fn cdb_length(sheet: &[u8], i: usize) -> usize
     wide(numbers::byte(sheet, 2 + 4 * i))
 }
 
+// How many bytes of data-out call i has.
 pub fn out_length(sheet: &[u8], i: usize) -> usize
     requires { ⌜ i < 256 ⌝ }
     ensures { λ r. ⌜ (r ≡ outLength (now (sheet .entry)) i) × (r < 65536) ⌝ }

@@ -89,6 +89,7 @@ fn put_data(out: &mut [u8], at: usize, returned: usize, from: &[u8]) -> usize
 
 // ---- the line
 
+// All fields of an outcome; `from` holds the data that is returned.
 pub fn put_line(
     out: &mut [u8],
     at: usize,

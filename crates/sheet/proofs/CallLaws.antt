@@ -19,7 +19,7 @@ use Rattle.store.specs.Step.{step}
 use Rattle.store.specs.Fresh.{fresh, freshAnswer, freshUnit, freshStore}
 use Rattle.reply.specs.Contract.{storeOf, callOf}
 use Rattle.contents.specs.Contents.{calls, nexusOf, cdbLength, outLength, bodyEnd, bodiesBegin, goodSheet}
-use Rattle.sheet.specs.Sheet.{dataInBytes, callAt}
+use Rattle.sheet.specs.Calls.{dataInBytes, callAt}
 use Rattle.sheet.specs.Printed.{capacity, slots, heading, badSheet, seenLine, linesFrom, benchStore, linesOf, printed}
 use Rattle.text.specs.Puts.{Puts}
 use Rattle.sheet.proofs.Returned.{returned-fits}

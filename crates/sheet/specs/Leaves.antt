@@ -8,7 +8,7 @@ use Rattle.store.specs.Store.{Store}
 use Rattle.store.specs.Step.{step}
 use Rattle.contents.specs.Contents.{mostCalls}
 use Rattle.lines.specs.Most.{lineMost}
-use Rattle.sheet.specs.Sheet.{callAt}
+use Rattle.sheet.specs.Calls.{callAt}
 use Rattle.sheet.specs.Printed.{seenLine, linesOf}
 
 -- room for what the longest sheet prints

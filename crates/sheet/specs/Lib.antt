@@ -1,3 +1,3 @@
-pub mod Sheet
+pub mod Calls
 pub mod Printed
 pub mod Leaves

@@ -9,7 +9,7 @@ use Rattle.store.specs.Step.{step}
 use Rattle.store.specs.Fresh.{freshStore}
 use Rattle.contents.specs.Contents.{calls, bodyEnd, bodiesBegin, goodSheet}
 use Rattle.lines.specs.Line.{lineOf}
-use Rattle.sheet.specs.Sheet.{callAt}
+use Rattle.sheet.specs.Calls.{callAt}
 
 -- "fresh store of capacity 8 and 2 slots"
 abbrev pub capacity : ℕ

@@ -37,3 +37,9 @@ hex-more l i h = rw (add-one i, take-suc l i 0 h) (sym (hex-last (take i l) (get
 -- all bytes
 pub hex-all : (l : List ℕ) (i : ℕ) → length l ≤ i → hex (take i l) ≡ hex l
 hex-all l i h = ap hex (take-all i l h)
+
+-- the definition runs: each of the sixteen digits
+sixteen : hex (0x01 ∷ 0x23 ∷ 0x45 ∷ 0x67 ∷ 0x89 ∷ 0xAB ∷ 0xCD ∷ 0xEF ∷ []) ≡
+    0x30 ∷ 0x31 ∷ 0x32 ∷ 0x33 ∷ 0x34 ∷ 0x35 ∷ 0x36 ∷ 0x37 ∷ 0x38 ∷ 0x39 ∷ 0x41 ∷ 0x42 ∷ 0x43 ∷ 0x44 ∷ 0x45 ∷ 0x46 ∷ []
+unfolding hex hexByte hexDigit
+sixteen = refl

@@ -13,7 +13,8 @@ use Rattle.fields.proofs.BytesLaws.{length-put, put-is, put-next, put-none}
 use Rattle.text.specs.Puts.{Puts}
 
 -- a part that was lent and comes back as the text
-pub part-put : (at : ℕ) (l text new : List ℕ) → at + length text ≤ length l → new ≡ text → putMid at (at + length text - at) l new ≡ put l at text
+pub part-put : (at : ℕ) (l text new : List ℕ) → at + length text ≤ length l → new ≡ text
+    → putMid at (at + length text - at) l new ≡ put l at text
 part-put at l text new h e =
     rw e (ap (λ (z : List ℕ). take at l ++ (text ++ z)) (post-is at (at + length text) l (omega arith)) ∙ sym (put-is l at text h))
 
@@ -27,7 +28,8 @@ puts-as {s} {t} {l} {after} {at} {end} e p =
     record { bytes = p .bytes ∙ ap (put l at) e; behind = p .behind ∙ ap (λ (u : List ℕ). at + length u) e }
 
 -- a text, and another behind it
-pub puts-then : {s t l between after : List ℕ} {at next end : ℕ} → Puts s l at between next → Puts t between next after end → Puts (s ++ t) l at after end
+pub puts-then : {s t l between after : List ℕ} {at next end : ℕ} → Puts s l at between next → Puts t between next after end
+    → Puts (s ++ t) l at after end
 puts-then {s} {t} {l} {between} {after} {at} {next} {end} p q = record {
   bytes = q .bytes ∙ rw (p .bytes, p .behind) (put-next l at s t);
   behind = q .behind ∙ rw (p .behind, length-append s t) (add-assoc at (length s) (length t));

@@ -17,6 +17,7 @@ pub fn put_text(out: &mut [u8], at: usize, text: &[u8]) -> usize
     end
 }
 
+// A comma.
 pub fn put_comma(out: &mut [u8], at: usize) -> usize
     requires { ⌜ at + 1 ≤ length (now out) ⌝ }
     ensures { λ r. ⌜ (Puts (comma ∷ []) (now (out .entry)) at (now (out .exit)) r) × (r ≡ at + 1) ⌝ }
@@ -24,6 +25,7 @@ pub fn put_comma(out: &mut [u8], at: usize) -> usize
     put_text(out, at, b",")
 }
 
+// A line feed.
 pub fn put_line_feed(out: &mut [u8], at: usize) -> usize
     requires { ⌜ at + 1 ≤ length (now out) ⌝ }
     ensures { λ r. ⌜ (Puts (lineFeed ∷ []) (now (out .entry)) at (now (out .exit)) r) × (r ≡ at + 1) ⌝ }

@@ -1,7 +1,7 @@
 -- `commands::execute` meets its contract. Assumes nothing.
 use mathlib.Core.Path.{refl, sym, _∙_}
 use borrow.Author.Needs.{needs}
-use Rattle.commands.proofs.ReadyLaws.{ready-bounded, ready-sense}
+use Rattle.readiness.proofs.ReadyLaws.{ready-bounded, ready-sense}
 use Rattle.commands.proofs.StepLaws.{step-served, step-unready}
 use Rattle.commands.proofs.execute.Statement.{statement}
 use Rattle.commands.proofs.execute.Tie as tie

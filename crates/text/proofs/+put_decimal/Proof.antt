@@ -65,7 +65,8 @@ module _ (t : ℕ) where
       let d = c .before .before .before .before in
       let e = d .before .before .before .before in
       let x = e .before .before .before .before .args .x in
-      let p = puts-more x (e .put-decimal .ensures .0) (c .before .before .put-text2 .ensures) (omega (arith, e .before .before .if1 .left)) (omega arith) (d .digit2 .ensures) in
+      let h = e .before .before .if1 .left in
+      let p = puts-more x (e .put-decimal .ensures .0) (c .before .before .put-text2 .ensures) (omega (arith, h)) (omega arith) (d .digit2 .ensures) in
       (p, puts-most x 20 p (omega arith) (omega arith))
 
 pub +put-decimal-spec : {M : Type 1} → statement M

@@ -8,7 +8,7 @@ use borrow.Author.Needs.{needs}
 use Rattle.reply.specs.Contract.{storeOf}
 use Rattle.sheet.specs.Printed.{slots, linesFrom, linesOf}
 use Rattle.contents.specs.Contents.{mostCalls, bodiesEnd}
-use Rattle.contents.proofs.GoodLaws.{good-calls, good-length, body-begins, body-ends, bodies-begin}
+use Rattle.contents.proofs.Bodies.{good-calls, good-length, body-begins, body-ends, bodies-begin}
 use Rattle.contents.proofs.Turns.{bodies-turn}
 use Rattle.lines.specs.Most.{lineMost}
 use Rattle.sheet.proofs.CallLaws.{fresh-store, ToCome, come-begin, come-turn, come-done}

@@ -1,9 +1,9 @@
 -- `commands::ready::map_ok` meets its contract. Assumes nothing.
 use mathlib.Core.Path.{sym, _∙_}
 use borrow.Author.Needs.{needs}
-use Rattle.commands.proofs.ReadyLaws.{map-valid, map-beyond, map-clash}
-use Rattle.commands.proofs.ready.map_ok.Statement.{statement}
-use Rattle.commands.proofs.ready.map_ok.Tie as tie
+use Rattle.readiness.proofs.ReadyLaws.{map-valid, map-beyond, map-clash}
+use Rattle.readiness.proofs.map_ok.Statement.{statement}
+use Rattle.readiness.proofs.map_ok.Tie as tie
 
 check-requires : tie.Need-check-requires
 check-requires c κs = tt

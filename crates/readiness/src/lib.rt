@@ -5,7 +5,7 @@ ghost use Rattle.pool.specs.Pool.{pool};
 ghost use Rattle.pool.specs.Valid.{capacityOk, slotsOk, mapOk, poolOk};
 ghost use Rattle.store.specs.Store.{unitOk};
 ghost use Rattle.reply.specs.Contract.{storeOf, callOf};
-ghost use Rattle.commands.specs.Served.{readyFor};
+ghost use Rattle.readiness.specs.Ready.{readyFor};
 use answers::SENSE_BYTES;
 use pool::BLOCK_BYTES;
 use pool::Checked;

@@ -1,9 +1,9 @@
 -- `commands::ready::ready` meets its contract. Assumes nothing.
 use mathlib.Core.Path.{sym, _∙_}
 use borrow.Author.Tests.{not-true, not-false, ne-eqb, eq-eqb, lt-ltb, le-ltb}
-use Rattle.commands.proofs.ReadyLaws.{ready-nexus, ready-empty, ready-short, ready-unit, ready-rest}
-use Rattle.commands.proofs.ready.ready.Statement.{statement}
-use Rattle.commands.proofs.ready.ready.Tie as tie
+use Rattle.readiness.proofs.ReadyLaws.{ready-nexus, ready-empty, ready-short, ready-unit, ready-rest}
+use Rattle.readiness.proofs.ready.Statement.{statement}
+use Rattle.readiness.proofs.ready.Tie as tie
 
 returns : tie.Need-returns
 returns c = ready-nexus _ _ (lt-ltb _ _ (c .if1 .taken))

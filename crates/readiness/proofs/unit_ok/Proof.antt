@@ -1,9 +1,9 @@
 -- `commands::ready::unit_ok` meets its contract. Assumes nothing.
 use mathlib.Core.Path.{sym, _∙_}
 use borrow.Author.Tests.{not-true, not-false}
-use Rattle.commands.proofs.ReadyLaws.{unit-bad, unit-rest}
-use Rattle.commands.proofs.ready.unit_ok.Statement.{statement}
-use Rattle.commands.proofs.ready.unit_ok.Tie as tie
+use Rattle.readiness.proofs.ReadyLaws.{unit-bad, unit-rest}
+use Rattle.readiness.proofs.unit_ok.Statement.{statement}
+use Rattle.readiness.proofs.unit_ok.Tie as tie
 
 capacity-ok-requires : tie.Need-capacity-ok-requires
 capacity-ok-requires c κs = tt

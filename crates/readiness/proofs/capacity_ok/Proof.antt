@@ -1,8 +1,8 @@
 -- `commands::ready::capacity_ok` meets its contract. Assumes nothing.
 use borrow.Author.Tests.{lt-leb, le-leb}
 use Rattle.pool.specs.Valid.{capacityOk}
-use Rattle.commands.proofs.ready.capacity_ok.Statement.{statement}
-use Rattle.commands.proofs.ready.capacity_ok.Tie as tie
+use Rattle.readiness.proofs.capacity_ok.Statement.{statement}
+use Rattle.readiness.proofs.capacity_ok.Tie as tie
 
 returns : tie.Need-returns
 unfolding capacityOk

@@ -19,7 +19,7 @@ use Rattle.store.specs.declared.Unit.{Unit}
 use Rattle.store.specs.Store.{Store, Call, unitOk, usable}
 use Rattle.reply.specs.Contract.{storeOf, callOf}
 use Rattle.reply.specs.Reply.{Bounded}
-use Rattle.commands.specs.Served.{readyFor}
+use Rattle.readiness.specs.Ready.{readyFor}
 
 module _ (u : Unit) (owners medium : List ℕ) (t : T (usable (storeOf u owners medium))) where
   unit-part : T (unitOk u)

@@ -2,9 +2,9 @@
 use mathlib.Core.Path.{sym, _∙_}
 use native.Mathlib.Omega.{arith}
 use borrow.Author.Tests.{not-true, not-false, ne-eqb, eq-eqb}
-use Rattle.commands.proofs.ReadyLaws.{slots-few, pool-slots, pool-torn, pool-rest}
-use Rattle.commands.proofs.ready.pool_ok.Statement.{statement}
-use Rattle.commands.proofs.ready.pool_ok.Tie as tie
+use Rattle.readiness.proofs.ReadyLaws.{slots-few, pool-slots, pool-torn, pool-rest}
+use Rattle.readiness.proofs.pool_ok.Statement.{statement}
+use Rattle.readiness.proofs.pool_ok.Tie as tie
 
 slots-ok-requires : tie.Need-slots-ok-requires
 slots-ok-requires c κs = tt

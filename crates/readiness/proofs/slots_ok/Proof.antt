@@ -1,8 +1,8 @@
 -- `commands::ready::slots_ok` meets its contract. Assumes nothing.
 use borrow.Author.Tests.{lt-leb, le-leb}
 use Rattle.pool.specs.Valid.{slotsOk}
-use Rattle.commands.proofs.ready.slots_ok.Statement.{statement}
-use Rattle.commands.proofs.ready.slots_ok.Tie as tie
+use Rattle.readiness.proofs.slots_ok.Statement.{statement}
+use Rattle.readiness.proofs.slots_ok.Tie as tie
 
 returns : tie.Need-returns
 unfolding slotsOk

@@ -1,4 +1,4 @@
--- `reservations::actions::crowded` meets its contract.
+-- `actions::crowded` meets its contract.
 -- Assumes nothing.
 use mathlib.Core.Path.{sym, _∙_}
 use borrow.Author.Tests.{eq-eqb, ne-eqb}

@@ -1,4 +1,4 @@
--- `reservations::actions::decide` meets its contract.
+-- `actions::decide` meets its contract.
 -- Assumes nothing.
 use borrow.Author.Needs.{needs}
 use Rattle.actions.proofs.decide.Statement.{statement}

@@ -1,4 +1,4 @@
--- `reservations::actions::enter` meets its contract.
+-- `actions::enter` meets its contract.
 -- Assumes nothing.
 use mathlib.Core.Path.{sym, _∙_}
 use borrow.Author.Needs.{needs}

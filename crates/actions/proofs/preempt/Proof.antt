@@ -1,4 +1,4 @@
--- `reservations::actions::preempt` meets its contract.
+-- `actions::preempt` meets its contract.
 -- Assumes nothing.
 use mathlib.Core.Path.{sym, _∙_}
 use borrow.Author.Tests.{eq-eqb, ne-eqb, not-true, not-false}

@@ -1,4 +1,4 @@
--- `reservations::actions::preempting` meets its contract.
+-- `actions::preempting` meets its contract.
 -- Assumes nothing.
 use mathlib.Core.Path.{sym, _∙_}
 use borrow.Author.Tests.{eq-eqb, ne-eqb}

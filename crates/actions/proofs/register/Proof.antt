@@ -1,4 +1,4 @@
--- `reservations::actions::register` meets its contract.
+-- `actions::register` meets its contract.
 -- Assumes nothing.
 use mathlib.Core.Path.{sym, _∙_}
 use borrow.Author.Tests.{not-true, not-false}

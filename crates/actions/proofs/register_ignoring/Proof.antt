@@ -1,4 +1,4 @@
--- `reservations::actions::register_ignoring` meets its contract.
+-- `actions::register_ignoring` meets its contract.
 -- Assumes nothing.
 use mathlib.Core.Path.{sym, _∙_}
 use borrow.Author.Needs.{needs}

@@ -1,4 +1,4 @@
--- `reservations::actions::stranger` meets its contract.
+-- `actions::stranger` meets its contract.
 -- Assumes nothing.
 use mathlib.Core.Path.{sym, _∙_}
 use borrow.Author.Tests.{not-true, not-false}

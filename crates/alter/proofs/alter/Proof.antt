@@ -1,4 +1,4 @@
--- `commands::alter::alter` meets its contract. Assumes nothing.
+-- `alter::alter` meets its contract. Assumes nothing.
 use mathlib.Core.Path.{_∙_}
 use borrow.Author.Needs.{needs}
 use Rattle.alter.proofs.AlterLaws.{alter-length, alter-short, alter-decided}

@@ -1,4 +1,4 @@
--- `commands::alter::flagged` meets its contract. Assumes nothing.
+-- `alter::flagged` meets its contract. Assumes nothing.
 use mathlib.Core.Path.{sym, _∙_}
 use borrow.Author.Needs.{needs}
 use Rattle.alter.proofs.flagged.Statement.{statement}

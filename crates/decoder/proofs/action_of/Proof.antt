@@ -1,4 +1,4 @@
--- `forms::action_of` meets its contract. Assumes nothing.
+-- `decoder::action_of` meets its contract. Assumes nothing.
 use borrow.Author.Needs.{needs}
 use Rattle.decoder.proofs.action_of.Statement.{statement}
 use Rattle.decoder.proofs.action_of.Tie as tie

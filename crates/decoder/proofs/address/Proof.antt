@@ -1,4 +1,4 @@
--- `forms::address` meets its contract. Assumes nothing.
+-- `decoder::address` meets its contract. Assumes nothing.
 use borrow.Author.Needs.{needs}
 use Rattle.decoder.proofs.address.Statement.{statement}
 use Rattle.decoder.proofs.address.Tie as tie

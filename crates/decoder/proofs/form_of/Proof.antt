@@ -1,4 +1,4 @@
--- `forms::form_of` meets its contract. Assumes nothing.
+-- `decoder::form_of` meets its contract. Assumes nothing.
 use borrow.Author.Needs.{needs}
 use Rattle.decoder.proofs.form_of.Statement.{statement}
 use Rattle.decoder.proofs.form_of.Tie as tie

@@ -1,4 +1,4 @@
--- `forms::size` meets its contract. Assumes nothing.
+-- `decoder::size` meets its contract. Assumes nothing.
 use borrow.Author.Needs.{needs}
 use Rattle.decoder.proofs.SoundLaws.{size-below}
 use Rattle.decoder.proofs.size.Statement.{statement}

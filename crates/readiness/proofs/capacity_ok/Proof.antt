@@ -1,4 +1,4 @@
--- `commands::ready::capacity_ok` meets its contract. Assumes nothing.
+-- `readiness::capacity_ok` meets its contract. Assumes nothing.
 use borrow.Author.Tests.{lt-leb, le-leb}
 use Rattle.pool.specs.Valid.{capacityOk}
 use Rattle.readiness.proofs.capacity_ok.Statement.{statement}

@@ -1,4 +1,4 @@
--- `commands::ready::map_ok` meets its contract. Assumes nothing.
+-- `readiness::map_ok` meets its contract. Assumes nothing.
 use mathlib.Core.Path.{sym, _∙_}
 use borrow.Author.Needs.{needs}
 use Rattle.readiness.proofs.ReadyLaws.{map-valid, map-beyond, map-clash}

@@ -1,4 +1,4 @@
--- `commands::ready::pool_ok` meets its contract. Assumes nothing.
+-- `readiness::pool_ok` meets its contract. Assumes nothing.
 use mathlib.Core.Path.{sym, _∙_}
 use native.Mathlib.Omega.{arith}
 use borrow.Author.Tests.{not-true, not-false, ne-eqb, eq-eqb}

@@ -1,4 +1,4 @@
--- `commands::ready::ready` meets its contract. Assumes nothing.
+-- `readiness::ready` meets its contract. Assumes nothing.
 use mathlib.Core.Path.{sym, _∙_}
 use borrow.Author.Tests.{not-true, not-false, ne-eqb, eq-eqb, lt-ltb, le-ltb}
 use Rattle.readiness.proofs.ReadyLaws.{ready-nexus, ready-empty, ready-short, ready-unit, ready-rest}

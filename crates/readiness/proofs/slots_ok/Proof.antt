@@ -1,4 +1,4 @@
--- `commands::ready::slots_ok` meets its contract. Assumes nothing.
+-- `readiness::slots_ok` meets its contract. Assumes nothing.
 use borrow.Author.Tests.{lt-leb, le-leb}
 use Rattle.pool.specs.Valid.{slotsOk}
 use Rattle.readiness.proofs.slots_ok.Statement.{statement}

@@ -1,4 +1,4 @@
--- `commands::ready::unit_ok` meets its contract. Assumes nothing.
+-- `readiness::unit_ok` meets its contract. Assumes nothing.
 use mathlib.Core.Path.{sym, _∙_}
 use borrow.Author.Tests.{not-true, not-false}
 use Rattle.readiness.proofs.ReadyLaws.{unit-bad, unit-rest}

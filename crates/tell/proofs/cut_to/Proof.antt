@@ -1,4 +1,4 @@
--- `commands::tell::cut_to` meets its contract. Assumes nothing.
+-- `tell::cut_to` meets its contract. Assumes nothing.
 use borrow.Author.Needs.{needs}
 use Rattle.tell.proofs.TellLaws.{allowed-all, allowed-whole, allowed-cut}
 use Rattle.tell.proofs.cut_to.Statement.{statement}

@@ -1,4 +1,4 @@
--- `commands::tell::give` meets its contract. Assumes nothing.
+-- `tell::give` meets its contract. Assumes nothing.
 use borrow.Author.Needs.{needs}
 use Rattle.tell.proofs.TellLaws.{give-short, give-done}
 use Rattle.tell.proofs.give.Statement.{statement}

@@ -1,4 +1,4 @@
--- `commands::tell::tell` meets its contract. Assumes nothing.
+-- `tell::tell` meets its contract. Assumes nothing.
 use mathlib.Core.Path.{sym, ap, _∙_}
 use native.Mathlib.Omega.{arith}
 use lib.ListN.{length-take, length}

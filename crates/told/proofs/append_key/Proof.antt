@@ -1,4 +1,4 @@
--- `reservations::told::append_key` meets its contract.
+-- `told::append_key` meets its contract.
 -- Assumes nothing.
 use mathlib.Core.Path.{_∙_}
 use native.Mathlib.Omega.{arith}

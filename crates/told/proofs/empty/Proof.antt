@@ -1,4 +1,4 @@
--- `reservations::told::empty` meets its contract.
+-- `told::empty` meets its contract.
 -- Assumes nothing.
 use borrow.Author.Needs.{needs}
 use Rattle.fields.specs.Bytes.{zeros}

@@ -1,4 +1,4 @@
--- `reservations::told::keys` meets its contract.
+-- `told::keys` meets its contract.
 -- Assumes nothing.
 use mathlib.Core.Path.{_≡_}
 use Prim.Native.Nat.{_*_, _-_, _≤_}

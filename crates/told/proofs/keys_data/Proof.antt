@@ -1,4 +1,4 @@
--- `reservations::told::keys_data` meets its contract.
+-- `told::keys_data` meets its contract.
 -- Assumes nothing.
 use mathlib.Core.Path.{_≡_, sym, ap, _∙_}
 use native.Mathlib.Omega.{arith}

@@ -1,4 +1,4 @@
--- `reservations::told::reservation_body` meets its contract.
+-- `told::reservation_body` meets its contract.
 -- Assumes nothing.
 use borrow.Author.Needs.{needs}
 use Rattle.fields.specs.Bytes.{zeros}

@@ -1,4 +1,4 @@
--- `reservations::told::reservation_data` meets its contract.
+-- `told::reservation_data` meets its contract.
 -- Assumes nothing.
 use borrow.Author.Needs.{needs}
 use Rattle.told.proofs.PageLaws.{shows-more, reservation-none, reservation-some}

@@ -1,4 +1,4 @@
--- `commands::transfer::past_end` meets its contract. Assumes nothing.
+-- `blocks::transfer::past_end` meets its contract. Assumes nothing.
 use Rattle.blocks.proofs.BlockLaws.{range-past, range-rest}
 use Rattle.blocks.proofs.transfer.past_end.Statement.{statement}
 use Rattle.blocks.proofs.transfer.past_end.Tie as tie

@@ -1,4 +1,4 @@
--- `commands::transfer::read` meets its contract. Assumes nothing.
+-- `blocks::transfer::read` meets its contract. Assumes nothing.
 use mathlib.Core.Path.{sym, _∙_}
 use native.Mathlib.Omega.{arith}
 use borrow.Author.Needs.{needs}

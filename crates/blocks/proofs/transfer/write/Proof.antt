@@ -1,4 +1,4 @@
--- `commands::transfer::write` meets its contract. Assumes nothing.
+-- `blocks::transfer::write` meets its contract. Assumes nothing.
 use mathlib.Core.Path.{sym, _∙_}
 use native.Mathlib.Omega.{arith}
 use borrow.Author.Needs.{needs}

@@ -1,4 +1,4 @@
--- `commands::unmap::broken_off` meets its contract. Assumes nothing.
+-- `blocks::unmap::broken_off` meets its contract. Assumes nothing.
 use borrow.Author.Tests.{lt-leb, le-leb}
 use Rattle.blocks.proofs.unmap.broken_off.Statement.{statement}
 use Rattle.blocks.proofs.unmap.broken_off.Tie as tie

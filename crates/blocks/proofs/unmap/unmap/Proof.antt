@@ -1,4 +1,4 @@
--- `commands::unmap::unmap` meets its contract. Assumes nothing.
+-- `blocks::unmap::unmap` meets its contract. Assumes nothing.
 use mathlib.Core.Path.{sym, _∙_}
 use borrow.Author.Needs.{needs}
 use Rattle.blocks.proofs.BlockLaws.{unmap-broken, unmap-short, unmap-many, unmap-range, unmap-done}

@@ -1,4 +1,4 @@
--- `forms::codes::capacity16` meets its contract. Assumes nothing.
+-- `decoder::codes::capacity16` meets its contract. Assumes nothing.
 use mathlib.Core.Path.{sym, _∙_}
 use borrow.Author.Needs.{needs}
 use borrow.Author.Tests.{ne-eqb}

@@ -1,4 +1,4 @@
--- `forms::codes::form_for` meets its contract. Assumes nothing.
+-- `decoder::codes::form_for` meets its contract. Assumes nothing.
 use mathlib.Core.Logic.{inl, inr}
 use mathlib.Core.Path.{sym, _∙_}
 use borrow.Author.Needs.{needs}

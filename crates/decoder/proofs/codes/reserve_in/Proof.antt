@@ -1,4 +1,4 @@
--- `forms::codes::reserve_in` meets its contract. Assumes nothing.
+-- `decoder::codes::reserve_in` meets its contract. Assumes nothing.
 use mathlib.Core.Path.{sym, _∙_}
 use borrow.Author.Needs.{needs}
 use borrow.Author.Tests.{ne-eqb}

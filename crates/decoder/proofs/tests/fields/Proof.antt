@@ -1,4 +1,4 @@
--- `forms::tests::fields` meets its contract. Assumes nothing.
+-- `decoder::tests::fields` meets its contract. Assumes nothing.
 use mathlib.Core.Path.{refl}
 use mathlib.Core.Path.{sym, _∙_}
 use borrow.Author.Needs.{needs}

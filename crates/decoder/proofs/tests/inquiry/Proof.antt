@@ -1,4 +1,4 @@
--- `forms::tests::inquiry` meets its contract. Assumes nothing.
+-- `decoder::tests::inquiry` meets its contract. Assumes nothing.
 use mathlib.Core.Path.{sym, _∙_}
 use borrow.Author.Needs.{needs}
 use borrow.Author.Tests.{eq-eqb, ne-eqb}

@@ -1,4 +1,4 @@
--- `forms::tests::is_type` meets its contract. Assumes nothing.
+-- `decoder::tests::is_type` meets its contract. Assumes nothing.
 use borrow.Author.Tests.{ne-eqb}
 use Rattle.decoder.proofs.tests.is_type.Statement.{statement}
 use Rattle.decoder.proofs.tests.is_type.Tie as tie

@@ -1,4 +1,4 @@
--- `forms::tests::is_unlisted` meets its contract. Assumes nothing.
+-- `decoder::tests::is_unlisted` meets its contract. Assumes nothing.
 use borrow.Author.Needs.{needs}
 use Rattle.decoder.proofs.tests.is_unlisted.Statement.{statement}
 use Rattle.decoder.proofs.tests.is_unlisted.Tie as tie

@@ -1,4 +1,4 @@
--- `forms::tests::naca` meets its contract. Assumes nothing.
+-- `decoder::tests::naca` meets its contract. Assumes nothing.
 use borrow.Author.Needs.{needs}
 use Rattle.decoder.proofs.tests.naca.Statement.{statement}
 use Rattle.decoder.proofs.tests.naca.Tie as tie

@@ -1,4 +1,4 @@
--- `forms::tests::of_moving` meets its contract. Assumes nothing.
+-- `decoder::tests::of_moving` meets its contract. Assumes nothing.
 use borrow.Author.Needs.{needs}
 use Rattle.decoder.proofs.tests.of_moving.Statement.{statement}
 use Rattle.decoder.proofs.tests.of_moving.Tie as tie

@@ -1,4 +1,4 @@
--- `forms::tests::scope_and_type` meets its contract. Assumes nothing.
+-- `decoder::tests::scope_and_type` meets its contract. Assumes nothing.
 use mathlib.Core.Path.{sym, _∙_}
 use borrow.Author.Needs.{needs}
 use borrow.Author.Tests.{le-leb, lt-leb}

@@ -1,4 +1,4 @@
--- `forms::tests::transfer` meets its contract. Assumes nothing.
+-- `decoder::tests::transfer` meets its contract. Assumes nothing.
 use mathlib.Core.Path.{sym, _∙_}
 use borrow.Author.Needs.{needs}
 use borrow.Author.Tests.{lt-ltb, le-ltb, le-leb, lt-leb}

@@ -1,4 +1,4 @@
--- `forms::tests::unmap` meets its contract. Assumes nothing.
+-- `decoder::tests::unmap` meets its contract. Assumes nothing.
 use mathlib.Core.Path.{sym, _∙_}
 use borrow.Author.Needs.{needs}
 use Rattle.answers.proofs.OrderLaws.{row-pass, row-stop, row-end}

@@ -1,4 +1,4 @@
--- `commands::pages::capacity10` meets its contract. Assumes nothing.
+-- `tell::pages::capacity10` meets its contract. Assumes nothing.
 use borrow.Author.Needs.{needs}
 use Rattle.tell.proofs.TellLaws.{capacity10-is}
 use Rattle.tell.proofs.pages.capacity10.Statement.{statement}

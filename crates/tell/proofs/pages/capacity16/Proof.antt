@@ -1,4 +1,4 @@
--- `commands::pages::capacity16` meets its contract. Assumes nothing.
+-- `tell::pages::capacity16` meets its contract. Assumes nothing.
 use borrow.Author.Needs.{needs}
 use Rattle.fields.specs.Bytes.{zeros}
 use Rattle.tell.proofs.TellLaws.{capacity16-is}

@@ -1,4 +1,4 @@
--- `commands::pages::inquiry` meets its contract. Assumes nothing.
+-- `tell::pages::inquiry` meets its contract. Assumes nothing.
 use mathlib.Core.Path.{refl}
 use Rattle.store.specs.Tell.{inquiryData}
 use Rattle.tell.proofs.pages.inquiry.Statement.{statement}

@@ -2,7 +2,8 @@
 ghost use mathlib.Core.Path.{_≡_};
 ghost use Prim.Native.Nat.{_≤_};
 ghost use lib.ListN.{length};
-ghost use Rattle.answers.specs.Answers.{sense, notListed, invalidField, outOfRange, listLength, listField, noPlace, otherType, noRoom, senses, sameSense, rowOf, numberOf, statusOf, fixedFormat, senseAfter, senseBytes};
+ghost use Rattle.answers.specs.Answers.{sense, notListed, invalidField, outOfRange, listLength, listField, noPlace, otherType, noRoom};
+ghost use Rattle.answers.specs.Answers.{senses, sameSense, rowOf, numberOf, statusOf, fixedFormat, senseAfter, senseBytes};
 
 // How many bytes sense has.
 pub const SENSE_BYTES: usize = 18;

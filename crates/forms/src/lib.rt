@@ -19,7 +19,8 @@ pub enum Move {
     Unmap,
 }
 
-// What a command is: one that tells, one that moves blocks, one that alters the rights, a listed code with a service action that is not, or a code that is not listed.
+// What a command is: one that tells, one that moves blocks, one that alters the rights, a listed code with a service action that is
+// not, or a code that is not listed.
 pub enum Command {
     Tells(Tell),
     Moves(Move),

@@ -9,7 +9,8 @@ mod words;
 // Makes a fresh store: its words and its owners. The answer is document 01's number.
 #[no_mangle]
 pub extern "C" fn ridge_fresh(capacity: u64, state: &mut [u64], owners: &mut [u64]) -> u64
-    ensures { λ r. ⌜ leavesFresh r (now (state .exit)) (now (owners .exit)) ≡ freshened capacity (now (state .entry)) (now (owners .entry)) ⌝ }
+    ensures { λ r. ⌜ leavesFresh r (now (state .exit)) (now (owners .exit))
+        ≡ freshened capacity (now (state .entry)) (now (owners .entry)) ⌝ }
 {
     if state.len() != 20 {
         return 11;
@@ -34,7 +35,12 @@ pub extern "C" fn ridge_execute(
     sense: &mut [u8],
     returned: &mut u64,
 ) -> u64
-    ensures { λ r. ⌜ leaves r (now (returned .exit)) (now (state .exit)) (now (owners .exit)) (now (medium .exit)) (now («data_in» .exit)) (now (sense .exit)) ≡ executed (now (state .entry)) (pool (now (owners .entry)) (now (medium .entry))) (call nexus (now (cdb .entry)) (now («data_out» .entry)) (now («data_in» .entry)) (now (sense .entry))) ⌝ }
+    ensures { λ r. ⌜ leaves r (now (returned .exit)) (now (state .exit))
+        (now (owners .exit)) (now (medium .exit)) (now («data_in» .exit)) (now (sense .exit))
+        ≡ executed
+        (now (state .entry))
+        (pool (now (owners .entry)) (now (medium .entry)))
+        (call nexus (now (cdb .entry)) (now («data_out» .entry)) (now («data_in» .entry)) (now (sense .entry))) ⌝ }
 {
     *returned = 0;
     if !words::fits(state) {

@@ -1,4 +1,4 @@
--- The unit's record in lent words: "0 capacity, 1 generation, 2 reservation type, 3 holder, 4-11 the places' nexuses, 12-19 the places' keys".
+-- The unit's record in lent words, as ridge.h has them: 0 capacity, 1 generation, 2 reservation type, 3 holder, 4-11 the places' nexuses, 12-19 their keys.
 -- Assumes nothing.
 use mathlib.Core.Bool.{Bool, true, false, _&&_}
 use mathlib.Core.List.{List, [], _∷_}
@@ -32,7 +32,7 @@ unfoldable pub fitByte : List ℕ → ℕ → ℕ → Bool
 fitByte words i zero = true
 fitByte words i (suc n) = ltb (word i words) 256 && fitByte words (suc i) n
 
--- "Another number of words, or a word too large for its field, is an invalid state": the type, the holder and the nexuses are bytes, words 2 to 11
+-- another number of words, or a word too large for its field, is an invalid state: the type, the holder and the nexuses are bytes, words 2 to 11
 unfoldable pub fit : List ℕ → Bool
 fit words = eqb (length words) 20 && ltb (word 1 words) (2 ^ 32) && fitByte words 2 10
 

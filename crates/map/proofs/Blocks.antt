@@ -162,14 +162,23 @@ assign-kept : (o : List ℕ) (b : ℕ) → T (has (suc b) o) → assign o b ≡ 
 unfolding mapped
 assign-kept o b t = assign-mapped o b t
 
--- the lowest free slot only rises
-free-rises : (x : ℕ) (o : List ℕ) → x ≢ 0 → place 0 o ≤ place 0 (fill x o)
+-- where no block is unmapped none gets a slot
+pub assign-nothing : (o : List ℕ) (a n : ℕ) → unmapped o a n ≡ 0 → assignBlocks o a n ≡ o
+unfolding unmapped assignBlocks
+assign-nothing o a zero h = refl
+assign-nothing o a (suc n) h =
+    test (mapped o a)
+    (λ t. rw (assign-mapped o a t) (assign-nothing o (suc a) n (omega arith)))
+    (λ t. let e : _≡_ {A = ℕ} (cond (mapped o a) 0 1) 1 = rw (T-false (mapped o a) t) in absurd (omega arith))
+
+-- once the lowest free slot is filled the next lies above it
+free-rises : (x : ℕ) (o : List ℕ) → x ≢ 0 → place 0 o < length o → place 0 o < place 0 (fill x o)
 unfolding place fill
-free-rises x [] d = omega arith
-free-rises x (y ∷ ys) d =
-    by-equal y 0 (λ b. cond b 0 (suc (place 0 ys)) ≤ place 0 (cond b (x ∷ ys) (y ∷ fill x ys)))
-    (λ e. omega arith)
-    (λ e. rw (ne-eqb y 0 e) (let h = free-rises x ys d in omega arith))
+free-rises x [] d h = absurd (omega arith)
+free-rises x (y ∷ ys) d h =
+    by-equal y 0 (λ b. cond b 0 (suc (place 0 ys)) < suc (length ys) → cond b 0 (suc (place 0 ys)) < place 0 (cond b (x ∷ ys) (y ∷ fill x ys)))
+    (λ e u. rw (ne-eqb x 0 d) (omega arith))
+    (λ e u. rw (ne-eqb y 0 e) (let ih = free-rises x ys d (omega arith) in omega arith)) h
 
 -- what holds of the owners o, their index and the cursor after the first k blocks have their slots
 pub record Given (o₀ : List ℕ) (a count : ℕ) (o index : List ℕ) (cursor k : ℕ) : Type 0 where
@@ -179,10 +188,11 @@ pub record Given (o₀ : List ℕ) (a count : ℕ) (o index : List ℕ) (cursor 
   pub room : unmapped o (a + k) (count - k) ≤ free o
   pub low : cursor ≤ place 0 o
 
-pub give-start : (o index : List ℕ) (a count : ℕ) → Indexed o a count index → unmapped o a count ≤ free o → Given o a count o index 0 0
-give-start o index a count e h =
+pub give-start : (o index : List ℕ) (a count from : ℕ) → Indexed o a count index → unmapped o a count ≤ free o → from ≤ place 0 o
+    → Given o a count o index from 0
+give-start o index a count from e h l =
     let z : count - 0 ≡ count = omega arith in
-    record { same = refl; indexed = e; rest = rw (add-zero a, z); room = rw (add-zero a, z) h; low = omega arith }
+    record { same = refl; indexed = e; rest = rw (add-zero a, z); room = rw (add-zero a, z) h; low = l }
 
 module _ (o₀ : List ℕ) (a count : ℕ) (o index : List ℕ) (cursor k : ℕ)
     (g : Given o₀ a count o index cursor k) (h : k < count) where
@@ -227,15 +237,15 @@ module _ (o₀ : List ℕ) (a count : ℕ) (o index : List ℕ) (cursor k : ℕ)
     pub give-below : place 0 o < length o
     give-below = place-below 0 o (has-room o (a + k) (count - (k + 1)) room-now has-not)
 
-    pub give-one : (r : ℕ) → r ≡ place 0 o → Given o₀ a count (set o r (a + k + 1)) (set index k r) r (k + 1)
+    pub give-one : (r : ℕ) → r ≡ place 0 o → Given o₀ a count (set o r (a + k + 1)) (set index k r) (r + 1) (k + 1)
     give-one r e =
         let z : suc (a + k) ≢ 0 = λ q. omega arith in
         let f : set o r (a + k + 1) ≡ fill (suc (a + k)) o = rw (e, add-one (a + k)) (sym (fill-set (suc (a + k)) o)) in
         let i : take count (set index k r) ≡ places (set o r (a + k + 1)) a count =
         take-set-lt count index k r h
         ∙ rw (f, e, g .indexed .each) (sym (places-fill o a count k h has-not)) in
-        give-next _ _ r (f ∙ sym (assign-new o (a + k) has-not)) (record { size = length-set index k r ∙ g .indexed .size; each = i })
-        (rw (f, e) (free-rises (suc (a + k)) o z))
+        give-next _ _ (r + 1) (f ∙ sym (assign-new o (a + k) has-not)) (record { size = length-set index k r ∙ g .indexed .size; each = i })
+        (rw (f, e) (let l = free-rises (suc (a + k)) o z give-below in omega arith))
 
 pub give-done : (o₀ : List ℕ) (a count : ℕ) (o index : List ℕ) (cursor k : ℕ) → Given o₀ a count o index cursor k → count ≡ k
     → o ≡ assignBlocks o₀ a count

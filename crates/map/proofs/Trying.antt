@@ -1,22 +1,57 @@
 -- A write that is tried: what it was, where it was done and where there was no room.
 -- Assumes nothing.
-use mathlib.Core.Path.{_≡_, sym, ap}
+use mathlib.Core.Path.{_≡_, refl, sym, ap, _∙_}
 use mathlib.Core.Bool.{Bool, true, false, cond}
 use mathlib.Core.List.{List}
 use Prim.Native.Nat.{ℕ, _<_, _≤_}
+use native.Mathlib.Omega.{arith}
+use lib.Dec.{leb→le}
 use borrow.Author.Tests.{le-leb, lt-leb}
+use Rattle.fields.proofs.Tests.{true→T}
 use Rattle.pool.specs.Pool.{Pool, pool, free, unmapped, assignBlocks, putBlocks, writeBlocks, roomFor}
-use Rattle.map.specs.Write.{Written, written, tryWrite}
+use Rattle.map.specs.Index.{Indexed}
+use Rattle.map.specs.Write.{Gave, Written, written, tryWrite}
+use Rattle.map.proofs.Blocks.{assign-nothing}
+
+-- ---- slots for all blocks of a range or for none
+
+module _ (o : List ℕ) (a n : ℕ) where
+  -- the three ways
+  pub gave-all : (after index : List ℕ) → unmapped o a n ≤ free o → after ≡ assignBlocks o a n → Indexed after a n index
+      → Gave o a n true after index
+  unfolding roomFor
+  gave-all after index h e x = record { room = sym (le-leb _ _ h); given = e; indexed = λ q. x }
+
+  pub gave-nothing : (index : List ℕ) → unmapped o a n ≡ 0 → Indexed o a n index → Gave o a n true o index
+  gave-nothing index e x = gave-all o index (omega arith) (sym (assign-nothing o a n e)) x
+
+  pub gave-none : (index : List ℕ) → free o < unmapped o a n → Gave o a n false o index
+  unfolding roomFor
+  gave-none index h = record { room = sym (lt-leb _ _ h); given = refl; indexed = λ q. let z : _≡_ {A = ℕ} 0 1 = cc in absurd (omega arith) }
+
+  module _ (done : Bool) (after index : List ℕ) (g : Gave o a n done after index) (e : done ≡ true) where
+    pub gave-room : unmapped o a n ≤ free o
+    unfolding roomFor
+    gave-room = leb→le _ _ (true→T _ (sym (g .room) ∙ e))
+
+    pub gave-assigned : after ≡ assignBlocks o a n
+    gave-assigned = g .given ∙ rw e
+
+    pub gave-index : Indexed (assignBlocks o a n) a n index
+    gave-index = rw gave-assigned at (g .indexed e)
+
+-- ---- the write
 
 module _ (p : Pool) (a n : ℕ) (bs : List ℕ) where
-  pub try-full : free (p .owners) < unmapped (p .owners) a n → written false (p .owners) (p .medium) ≡ tryWrite p a n bs
-  unfolding tryWrite roomFor
-  try-full h = rw (lt-leb _ _ h)
+  module _ (done : Bool) (owners index : List ℕ) (g : Gave (p .owners) a n done owners index) where
+    pub try-full : done ≡ false → written false owners (p .medium) ≡ tryWrite p a n bs
+    unfolding tryWrite
+    try-full e = let f : owners ≡ p .owners = g .given ∙ rw e in rw (← g .room, e, f)
 
-  pub try-done : (owners medium : List ℕ) → unmapped (p .owners) a n ≤ free (p .owners) → owners ≡ assignBlocks (p .owners) a n
-      → medium ≡ putBlocks (assignBlocks (p .owners) a n) (p .medium) a n bs → written true owners medium ≡ tryWrite p a n bs
-  unfolding tryWrite writeBlocks roomFor
-  try-done owners medium h f g = rw (le-leb _ _ h, f, g)
+    pub try-done : (medium : List ℕ) → done ≡ true → medium ≡ putBlocks (assignBlocks (p .owners) a n) (p .medium) a n bs
+        → written true owners medium ≡ tryWrite p a n bs
+    unfolding tryWrite writeBlocks
+    try-done medium e f = rw (← g .room, e, gave-assigned (p .owners) a n done owners index g e, f)
 
   module _ (done : Bool) (owners medium : List ℕ) (e : written done owners medium ≡ tryWrite p a n bs) where
     pub tried : roomFor (p .owners) a n ≡ done

@@ -1,9 +1,17 @@
 -- A write that is done whole or refused with nothing changed.
 -- Assumes nothing.
-use mathlib.Core.Bool.{Bool, cond}
+use mathlib.Core.Path.{_≡_}
+use mathlib.Core.Bool.{Bool, true, cond}
 use mathlib.Core.List.{List}
 use Prim.Native.Nat.{ℕ}
-use Rattle.pool.specs.Pool.{Pool, pool, roomFor, writeBlocks}
+use Rattle.pool.specs.Pool.{Pool, pool, roomFor, assignBlocks, writeBlocks}
+use Rattle.map.specs.Index.{Indexed}
+
+-- slots given to all of the n blocks from a on, where there is room, or to none; the index goes with them
+pub record Gave (owners : List ℕ) (a n : ℕ) (done : Bool) (after index : List ℕ) : Type 0 where
+  pub room : done ≡ roomFor owners a n
+  pub given : after ≡ cond done (assignBlocks owners a n) owners
+  pub indexed : done ≡ true → Indexed after a n index
 
 -- whether a write was done, and the pool after it
 pub record Written : Type 0 where

@@ -5,50 +5,58 @@ ghost use lib.ListN.{length, getD, take};
 ghost use Rattle.pool.specs.Bounds.{mostBlocks, mostSlots, mostTransfer, blockBytes};
 ghost use Rattle.pool.specs.Pool.{pool, place, free, unmapped, assignBlocks};
 ghost use Rattle.map.specs.Index.{Indexed, putPlaces};
-ghost use Rattle.map.specs.Write.{written, tryWrite};
+ghost use Rattle.map.specs.Write.{Gave, written, tryWrite};
 use crate::index;
-use crate::slots;
+use crate::search;
 use fields::bytes;
 use pool::BLOCK_BYTES;
 use pool::Lba;
 use pool::Slot;
 
-// The lowest free slot, or the number of slots. The search starts at `from`, below which none is free.
-fn next_free(owners: &[u64], from: Slot) -> Slot
-    requires { ⌜ from .0 ≤ place 0 (now owners) ⌝ }
-    ensures { λ r. ⌜ r .0 ≡ place 0 (now (owners .entry)) ⌝ }
-{
-    let first = from.0;
-    for i in first..owners.len() {
-        if owners[i] == 0 {
-            return Slot(i);
-        }
-    }
-    Slot(owners.len())
-}
-
 // Each unmapped address of the range, in rising order, gets the lowest free slot, and the index its place. Below the
-// cursor no slot is free, so the search for the next one never goes back.
-fn assign_blocks(owners: &mut [u64], index: &mut [usize], lba: Lba, count: usize)
+// cursor, at first `from`, no slot is free, so the search for the next one never goes back.
+fn assign_blocks(owners: &mut [u64], index: &mut [usize], lba: Lba, count: usize, from: Slot)
     requires { ⌜ (count ≤ mostTransfer)
         × (lba .0 + count ≤ mostBlocks)
         × Indexed (now owners) (lba .0) count (now index)
-        × (unmapped (now owners) (lba .0) count ≤ free (now owners)) ⌝ }
+        × (unmapped (now owners) (lba .0) count ≤ free (now owners))
+        × (from .0 ≤ place 0 (now owners)) ⌝ }
     ensures { λ _. ⌜ (now (owners .exit) ≡ assignBlocks (now (owners .entry)) (lba .0) count)
         × Indexed (now (owners .exit)) (lba .0) count (now (index .exit)) ⌝ }
 {
     let a = lba.0;
     let n = owners.len();
-    let mut cursor = Slot(0);
+    let mut cursor = from;
     for k in 0..count {
         if index[k] < n {
             continue;
         }
-        cursor = next_free(owners, cursor);
-        let at = cursor.0;
+        let found = search::next_free(owners, cursor);
+        let at = found.0;
         owners[at] = a + (k as u64) + 1;
         index[k] = at;
+        cursor = Slot(at + 1);
     }
+}
+
+// Slots for all blocks of the range or, where too few are free, for none; and whether they have them. Where no block is
+// unmapped no slot is searched.
+fn give_slots(owners: &mut [u64], index: &mut [usize], lba: Lba, count: usize) -> bool
+    requires { ⌜ (count ≤ mostTransfer)
+        × (lba .0 + count ≤ mostBlocks)
+        × Indexed (now owners) (lba .0) count (now index) ⌝ }
+    ensures { λ r. ⌜ Gave (now (owners .entry)) (lba .0) count r (now (owners .exit)) (now (index .exit)) ⌝ }
+{
+    let missing = index::missing_in(index, owners.len(), count);
+    if missing == 0 {
+        return true;
+    }
+    let first = search::lowest_free(owners);
+    if missing > search::free_from(owners, first) {
+        return false;
+    }
+    assign_blocks(owners, index, lba, count, first);
+    true
 }
 
 // Each block's bytes go to its place.
@@ -89,10 +97,9 @@ pub fn write_blocks(
 {
     let mut index = index::index_of(owners, lba, count);
     let slots = owners.len();
-    if index::missing_in(&index, slots, count) > slots::free_slots(owners) {
+    if !give_slots(owners, &mut index, lba, count) {
         return false;
     }
-    assign_blocks(owners, &mut index, lba, count);
     put_blocks(medium, &index, slots, count, bytes);
     true
 }

@@ -16,7 +16,7 @@ abbrev μ-loop : tie.MeasureT-loop
 μ-loop owners₀ index₀ count a n cursor₀ k₀ owners index cursor k = count - k
 
 loop-holds : tie.Need-loop-holds Inv-loop μ-loop
-loop-holds c = (search needs, refl, refl, give-start _ _ _ _ (c .before .before .pre .2) (c .before .before .pre .3))
+loop-holds c = (search needs, refl, refl, give-start _ _ _ _ _ (c .before .before .pre .2) (c .before .before .pre .3) (c .before .before .pre .4))
 
 mul-if1 : tie.Need-mul-if1 Inv-loop μ-loop
 mul-if1 c = search needs
@@ -59,6 +59,11 @@ mul-index c = search needs
 
 slice-write-index : tie.Need-slice-write-index Inv-loop μ-loop
 slice-write-index c = omega (arith, c .before .before .before .before .before .before .before .before .pre .2 .size)
+
+add-t13 : tie.Need-add-t13 Inv-loop μ-loop
+add-t13 c =
+    let l = c .before .before .before .before .before .loop in
+    omega (arith, c .next-free .ensures, give-below _ _ _ _ _ _ _ (l .inv .3) (c .before .before .before .before .loop-test .taken) (omega (arith, l .inv .3 .same)))
 
 add-k-2 : tie.Need-add-k-2 Inv-loop μ-loop
 add-k-2 c = search needs
@@ -103,6 +108,7 @@ assign-blocks-spec =
     slice-write-owners
     mul-index
     slice-write-index
+    add-t13
     add-k-2
     loop-less-2
     loop-again-2

@@ -1,25 +1,28 @@
--- `free_slots`: those counted and those left are all.
+-- `free_from`: those counted and those left are all, since none is free below the first.
 -- Assumes nothing.
 use mathlib.Core.Logic.{⊎-elim}
-use mathlib.Core.Path.{_≡_, refl}
+use mathlib.Core.Path.{_≡_, refl, _∙_}
 use Prim.Native.Nat.{_≤_, _<_, _-_, _+_}
 use native.Mathlib.Omega.{arith}
 use native.Mathlib.Nat.{zero-add}
 use lib.ListN.{length, drop}
 use borrow.Author.Needs.{needs}
 use Rattle.pool.specs.Pool.{free}
-use Rattle.map.proofs.Turns.{free-hit, free-miss, free-end}
-use Rattle.map.proofs.slots.free_slots.Statement.{statement}
-use Rattle.map.proofs.slots.free_slots.Tie as tie
+use Rattle.map.proofs.Turns.{place-most, free-below, free-hit, free-miss, free-end}
+use Rattle.map.proofs.search.free_from.Statement.{statement}
+use Rattle.map.proofs.search.free_from.Tie as tie
 
 abbrev Inv-loop : tie.InvT-loop
-Inv-loop owners n₀ i₀ i-end n i = (i ≤ i-end) × (i-end ≡ length owners) × (n ≤ i) × (n + free (drop i owners) ≡ free owners)
+Inv-loop owners from n₀ i₀ i-end n i = (i ≤ i-end) × (i-end ≡ length owners) × (n ≤ i) × (n + free (drop i owners) ≡ free owners)
 
 abbrev μ-loop : tie.MeasureT-loop
-μ-loop owners n₀ i₀ i-end n i = i-end - i
+μ-loop owners from n₀ i₀ i-end n i = i-end - i
 
 loop-holds : tie.Need-loop-holds Inv-loop μ-loop
-loop-holds c = (search needs, refl, search needs, zero-add _)
+loop-holds c =
+    let xs = c .args .owners .now in
+    let m = place-most 0 xs in
+    (omega arith, refl, search needs, zero-add _ ∙ free-below xs (c .args .from .0) (c .pre))
 
 mul-if1 : tie.Need-mul-if1 Inv-loop μ-loop
 mul-if1 c = search needs
@@ -52,8 +55,8 @@ returns c =
     let e = free-end (l .before .args .owners .now) (l .loop .i) (omega arith) in
     omega arith
 
-pub free-slots-spec : {M : Type 1} → statement M
-free-slots-spec =
+pub free-from-spec : {M : Type 1} → statement M
+free-from-spec =
     tie.close
     (tie.spec
     Inv-loop

@@ -7,8 +7,8 @@ use lib.ListN.{length}
 use borrow.Author.Needs.{needs}
 use Rattle.pool.specs.Pool.{place}
 use Rattle.map.proofs.Turns.{place-most, later, at-last}
-use Rattle.map.proofs.write.next_free.Statement.{statement}
-use Rattle.map.proofs.write.next_free.Tie as tie
+use Rattle.map.proofs.search.next_free.Statement.{statement}
+use Rattle.map.proofs.search.next_free.Tie as tie
 
 abbrev Inv-loop : tie.InvT-loop
 Inv-loop owners from i₀ i-end i = (i ≤ place 0 owners) × (i-end ≡ length owners)

@@ -8,7 +8,7 @@ use lib.Dec.{eqb}
 use Rattle.answers.specs.declared.Answer.{Answer}
 use Rattle.answers.specs.declared.Answer.the-variants.{Good, Conflict}
 use Rattle.answers.specs.Answers.{listField, noPlace, otherType}
-use Rattle.answers.specs.Order.{_if_, first, ifGood, firstOf, ifGoodBy, refuses}
+use Rattle.answers.specs.Order.{_if_, firstOf, ifGoodBy, refuses}
 use Rattle.rights.specs.declared.Rights.{Rights}
 use Rattle.rights.specs.declared.Parameters.{Parameters}
 use Rattle.rights.specs.declared.Decision.{Decision}

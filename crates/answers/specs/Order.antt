@@ -2,7 +2,7 @@
 -- Assumes nothing.
 use mathlib.Core.Bool.{Bool, true, false}
 use mathlib.Core.List.{List}
-use Rattle.order.specs.Order.{Row as RowOf, OneGood}
+use Rattle.order.specs.Order.{Row as RowOf}
 use Rattle.answers.specs.declared.Answer.{Answer}
 use Rattle.answers.specs.declared.Answer.the-variants.{Good, Refused, Conflict, Unusable, Short}
 pub use Rattle.order.specs.Order.{_if_}

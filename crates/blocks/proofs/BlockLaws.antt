@@ -7,14 +7,14 @@ use Prim.Native.Nat.{ℕ, _+_, _-_, _*_, _^_, _≤_, _<_}
 use native.Mathlib.Omega.{arith}
 use lib.Dec.{leb, ltb}
 use lib.ListN.{length}
-use borrow.Author.Tests.{ltb-true, ltb-false, lt-ltb, le-ltb, leb-true, leb-false}
+use borrow.Author.Tests.{ltb-true, ltb-false, lt-ltb, le-ltb}
 use Rattle.fields.specs.Bytes.{put}
 use Rattle.answers.specs.declared.Answer.{Answer}
 use Rattle.answers.specs.declared.Answer.the-variants.{Good, Short}
 use Rattle.answers.specs.Answers.{outOfRange, listLength, listField, noRoom}
 use Rattle.answers.specs.Order.{first, refuses}
 use Rattle.answers.proofs.OrderLaws.{row-pass, row-stop, row-end}
-use Rattle.pool.specs.Pool.{Pool, free, unmapped, readBlocks, writeBlocks, pool, roomFor}
+use Rattle.pool.specs.Pool.{Pool, readBlocks, writeBlocks, pool, roomFor}
 use Rattle.map.specs.Write.{Written, written, tryWrite}
 use Rattle.pool.proofs.Reading.{length-readBlocks}
 use Rattle.descriptors.specs.Descriptors.{considered, someFails, unmapAll}

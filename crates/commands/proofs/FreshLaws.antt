@@ -7,7 +7,7 @@ use Prim.Native.Nat.{ℕ}
 use lib.ListN.{length}
 use Rattle.fields.specs.Bytes.{zeros}
 use Rattle.answers.specs.declared.Answer.the-variants.{Good, Unusable}
-use Rattle.answers.specs.Order.{ifGood, ifGoodBy, refuses}
+use Rattle.answers.specs.Order.{ifGoodBy, refuses}
 use Rattle.answers.proofs.OrderLaws.{row-pass, row-stop, row-end}
 use Rattle.pool.specs.Valid.{capacityOk, slotsOk}
 use Rattle.rights.specs.declared.Rights.{Rights}

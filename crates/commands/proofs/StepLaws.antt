@@ -13,16 +13,14 @@ use Rattle.answers.proofs.Answer.{the-type}
 use Rattle.answers.specs.declared.Answer.{Answer}
 use Rattle.answers.specs.declared.Answer.the-variants.{Good, Refused, Conflict, Unusable, Short}
 use Rattle.answers.specs.Answers.{senseAfter}
-use Rattle.answers.specs.Order.{Row, _if_, first, next, ifGood, firstOf, ifGoodBy, refuses, refusing}
+use Rattle.answers.specs.Order.{Row, _if_, first, next, firstOf, ifGoodBy, refuses}
 use Rattle.answers.proofs.OrderLaws.{first-append, next-good, next-refuses}
-use Rattle.rights.specs.declared.Action.the-variants.{Register, Reserve, Release, Clear, Preempt, RegisterIgnoring}
-use Rattle.forms.specs.declared.Tell.the-variants.{Ready, Inquiry, Capacity10, Capacity16, Keys, Reservation}
 use Rattle.forms.specs.declared.Move.the-variants.{Read, Write, Unmap}
 use Rattle.forms.specs.declared.Command.{Command}
 use Rattle.forms.specs.declared.Command.the-variants.{Tells, Moves, Alters, Unknown, Unlisted}
 use Rattle.forms.specs.declared.Form.{Form}
 use Rattle.forms.specs.Forms.{formOf}
-use Rattle.forms.specs.Tests.{inquiryRows, transferRows, unmapRows, typeRows, fieldRows, formRows}
+use Rattle.forms.specs.Tests.{formRows}
 use Rattle.forms.proofs.Refusing.{form-refusing}
 use Rattle.reply.specs.declared.Outcome.{Outcome}
 use Rattle.store.specs.Store.{Store, Call, Result, seenOf}

@@ -1,18 +1,16 @@
 -- Every row of the table is sound: one test over all lines.
 -- Assumes nothing.
-use mathlib.Core.Path.{_≡_, refl, sym, subst}
-use mathlib.Core.Bool.{Bool, true, false, not, _&&_, _||_, cond, true≢false}
-use mathlib.Core.List.{List, [], _∷_}
+use mathlib.Core.Bool.{Bool, false, _&&_, _||_}
+use mathlib.Core.List.{List}
 use Prim.Native.Nat.{ℕ, _+_, _^_, _≤_, _<_}
 use native.Mathlib.Nat.{pow-le-pow-right, lt-of-lt-of-le}
-use lib.Dec.{T, eqb, leb, eqb→eq, leb→le, lit<}
+use lib.Dec.{T, leb, leb→le, lit<}
 use Rattle.fields.specs.Field.{byte}
-use Rattle.fields.proofs.Tests.{and-l, and-r, or-other, nand-rest, not-not-intro, true→T, false→T}
-use Rattle.forms.specs.declared.Command.{Command}
-use Rattle.forms.specs.declared.Command.the-variants.{Tells, Moves, Alters, Unknown, Unlisted}
+use Rattle.fields.proofs.Tests.{and-l, and-r, or-other, false→T}
+use Rattle.forms.specs.declared.Command.the-variants.{Unlisted}
 use Rattle.forms.specs.declared.Span.{Span}
 use Rattle.forms.specs.declared.Form.{Form}
-use Rattle.forms.specs.Forms.{form, absent, Line, takes, lines, lookup, formFor, formOf, action}
+use Rattle.forms.specs.Forms.{form, absent, lines, formFor, formOf, action}
 use Rattle.forms.specs.Tests.{isUnlisted}
 use Rattle.forms.proofs.Table.{all, obeys, looked-up}
 use Rattle.decoder.specs.Sound.{Sound}

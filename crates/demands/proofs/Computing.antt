@@ -4,7 +4,7 @@ use mathlib.Core.Bool.{Bool, true}
 use Rattle.fields.specs.Bytes.{part, put, zeros}
 use Rattle.fields.specs.Field.{byte, bit, field, bytes}
 use Rattle.answers.specs.Answers.{senses, sameSense, rowOf, numberOf, statusOf, fixedFormat, senseAfter}
-use Rattle.answers.specs.Order.{first, ifGood, firstOf, ifGoodBy, refuses}
+use Rattle.answers.specs.Order.{firstOf, ifGoodBy, refuses}
 use Rattle.pool.specs.Pool.{place, has, mapped, free, unmapped, readBlock, readBlocks, fill, assign, assignBlocks, putBlocks, writeBlocks, names, freed, unmapOwners, roomFor}
 use Rattle.pool.specs.Valid.{within, distinct, mapOk, capacityOk, slotsOk, poolOk}
 use Rattle.rights.specs.Places.{used, isOf, registered, keyOf, somebody, vacant, known, enrol, rekeyed, spares, without}

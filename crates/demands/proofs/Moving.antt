@@ -9,7 +9,7 @@ use lib.Dec.{T}
 use Rattle.fields.proofs.Tests.{false→T, not-not}
 use Rattle.answers.specs.declared.Answer.{Answer}
 use Rattle.answers.specs.declared.Answer.the-variants.{Good, Unusable}
-use Rattle.answers.specs.Answers.{invalidField, notListed}
+use Rattle.answers.specs.Answers.{invalidField}
 use Rattle.answers.specs.Order.{first, ifGood, refuses}
 use Rattle.answers.proofs.OrderLaws.{row-fails, rows-after, next-first, next-second, if-good, good-cases}
 use Rattle.forms.specs.declared.Move.{Move}
@@ -18,7 +18,7 @@ use Rattle.forms.specs.declared.Command.{Command}
 use Rattle.forms.specs.declared.Command.the-variants.{Moves}
 use Rattle.forms.specs.declared.Form.{Form}
 use Rattle.forms.specs.Forms.{formOf, sizeOf}
-use Rattle.forms.specs.Tests.{transferRows, fieldRows, formRows}
+use Rattle.forms.specs.Tests.{transferRows, fieldRows}
 use Rattle.store.specs.Store.{Store, Call, Result, usable, seenOf}
 use Rattle.store.specs.Move.{rangeRows, moved, fetched}
 use Rattle.store.specs.Step.{callRows, storeRows, answerBy, dataBy, storeBy, stepBy, step}

@@ -2,21 +2,17 @@
 -- Assumes nothing.
 use mathlib.Core.Path.{_≡_, refl, sym, ap, _∙_, subst}
 use mathlib.Core.Bool.{Bool, true, false, not}
-use mathlib.Core.List.{List, [], _∷_, _++_}
-use Prim.Native.Nat.{ℕ, _≤_}
+use mathlib.Core.List.{[], _∷_, _++_}
+use Prim.Native.Nat.{_≤_}
 use lib.Dec.{T, ltb, nltb→le}
 use Rattle.fields.proofs.Tests.{false→T}
 use Rattle.answers.specs.declared.Answer.{Answer}
 use Rattle.answers.specs.declared.Answer.the-variants.{Good, Refused, Conflict, Unusable, Short}
 use Rattle.answers.specs.Order.{_if_, first, next, ifGood, firstOf, ifGoodBy, nextBy, refuses, refusing, refusingBy}
 use Rattle.answers.proofs.OrderLaws.{row-fails, first-append, next-first, next-second}
-use Rattle.rights.specs.declared.Action.the-variants.{Register, Reserve, Release, Clear, Preempt, RegisterIgnoring}
-use Rattle.forms.specs.declared.Tell.the-variants.{Ready, Inquiry, Capacity10, Capacity16, Keys, Reservation}
-use Rattle.forms.specs.declared.Move.the-variants.{Read, Write, Unmap}
 use Rattle.forms.specs.declared.Command.{Command}
-use Rattle.forms.specs.declared.Command.the-variants.{Tells, Moves, Alters, Unknown, Unlisted}
 use Rattle.forms.specs.declared.Form.{Form}
-use Rattle.forms.specs.Tests.{inquiryRows, transferRows, unmapRows, typeRows, fieldRows, formRows}
+use Rattle.forms.specs.Tests.{formRows}
 use Rattle.forms.proofs.Refusing.{form-refusing}
 use Rattle.store.specs.Store.{Store, Call, usable}
 use Rattle.store.specs.Step.{callRows, storeRows, ownRows}

@@ -1,6 +1,6 @@
 -- An answer other than 0 leaves the words, the owners, the medium and data-in as they were, and returns nothing.
 -- Assumes nothing.
-use mathlib.Core.Path.{_≡_, refl, sym, ap, _∙_}
+use mathlib.Core.Path.{_≡_, refl, ap, _∙_}
 use mathlib.Core.Bool.{Bool, true, false, cond}
 use mathlib.Core.Logic.{_≢_}
 use mathlib.Core.List.{List}
@@ -9,7 +9,7 @@ use Rattle.answers.specs.declared.Answer.{Answer}
 use Rattle.answers.specs.declared.Answer.the-variants.{Good}
 use Rattle.answers.specs.Answers.{numberOf}
 use Rattle.pool.specs.Pool.{Pool}
-use Rattle.store.specs.Store.{Store, Call, Result}
+use Rattle.store.specs.Store.{Store, Call}
 use Rattle.store.specs.Step.{step}
 use Rattle.demands.specs.History.{after}
 use Rattle.demands.proofs.Demand1.{refused-store, refused-data, refused-none}

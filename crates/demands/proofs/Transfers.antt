@@ -12,7 +12,7 @@ use Rattle.fields.proofs.BytesLaws.{part-put-same}
 use Rattle.answers.specs.declared.Answer.{Answer}
 use Rattle.answers.specs.declared.Answer.the-variants.{Good, Short}
 use Rattle.answers.specs.Answers.{outOfRange, noRoom}
-use Rattle.answers.specs.Order.{first, ifGood, ifGoodBy, refuses}
+use Rattle.answers.specs.Order.{first, ifGoodBy, refuses}
 use Rattle.answers.proofs.OrderLaws.{row-fails, rows-after}
 use Rattle.pool.specs.Pool.{Pool, free, unmapped, readBlock, readBlocks, writeBlocks, roomFor}
 use Rattle.pool.proofs.Keeping.{poolOk-whole}

@@ -1,11 +1,11 @@
 -- Laws of tests: `and`, `or`, `not` under T.
 -- Assumes nothing.
-use mathlib.Core.Path.{_≡_, refl, sym, ap, _∙_, subst}
-use mathlib.Core.Bool.{Bool, true, false, not, _&&_, _||_, cond, false≢true, true≢false}
+use mathlib.Core.Path.{_≡_, refl, sym, subst}
+use mathlib.Core.Bool.{Bool, true, false, not, _&&_, _||_, false≢true, true≢false}
 use mathlib.Core.Logic.{_≢_}
 use Prim.Native.Nat.{ℕ}
 use borrow.Author.Tests.{eqb-true, eqb-false}
-use lib.Dec.{T, eqb, leb, eqb→eq, eqb-refl, not-T, T-not}
+use lib.Dec.{T, eqb, eqb→eq, eqb-refl, T-not}
 
 pub and-l : (a b : Bool) → T (a && b) → T a
 and-l true b t = tt

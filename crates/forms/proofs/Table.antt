@@ -3,14 +3,12 @@
 use mathlib.Core.Path.{_≡_, refl, sym, subst}
 use mathlib.Core.Bool.{Bool, true, false, not, _&&_, _||_, cond, true≢false}
 use mathlib.Core.List.{List, [], _∷_}
-use Prim.Native.Nat.{ℕ, _+_, _^_, _≤_, _<_}
-use native.Mathlib.Nat.{pow-le-pow-right, lt-of-lt-of-le}
-use lib.Dec.{T, eqb, leb, eqb→eq, leb→le, lit<}
+use Prim.Native.Nat.{ℕ}
+use lib.Dec.{T, eqb, eqb→eq}
 use Rattle.fields.specs.Field.{byte}
-use Rattle.fields.proofs.Tests.{and-l, and-r, or-other, nand-rest, not-not-intro, true→T, false→T}
+use Rattle.fields.proofs.Tests.{and-l, and-r, or-other, nand-rest, not-not-intro, true→T}
 use Rattle.forms.specs.declared.Command.{Command}
 use Rattle.forms.specs.declared.Command.the-variants.{Tells, Moves, Alters, Unknown, Unlisted}
-use Rattle.forms.specs.declared.Span.{Span}
 use Rattle.forms.specs.declared.Form.{Form}
 use Rattle.forms.specs.Forms.{form, absent, Line, takes, lines, lookup, formFor, formOf, action}
 use Rattle.forms.specs.Tests.{isUnlisted}

@@ -1,14 +1,12 @@
 -- The table of commands: a row of fields for each operation code and, where it has them, service action.
 -- Assumes nothing.
-use mathlib.Core.Bool.{Bool, true, false, _&&_, _||_}
+use mathlib.Core.Bool.{Bool, true, false}
 use mathlib.Core.List.{List, [], _∷_}
 use Prim.Native.Nat.{ℕ, _%_}
 use lib.Dec.{eqb}
 use Rattle.fields.specs.Field.{field, byte}
 use Rattle.rights.specs.declared.Action.the-variants.{Register, Reserve, Release, Clear, Preempt, RegisterIgnoring}
-use Rattle.forms.specs.declared.Tell.{Tell}
 use Rattle.forms.specs.declared.Tell.the-variants.{Ready, Inquiry, Capacity10, Capacity16, Keys, Reservation}
-use Rattle.forms.specs.declared.Move.{Move}
 use Rattle.forms.specs.declared.Move.the-variants.{Read, Write, Unmap}
 use Rattle.forms.specs.declared.Command.{Command}
 use Rattle.forms.specs.declared.Command.the-variants.{Tells, Moves, Alters, Unknown, Unlisted}

@@ -1,7 +1,7 @@
 -- The tests of a CDB by itself: "Then 1. Then 11 again …. Then 2: control byte bit 2 (NACA) set, for all commands, and the fields below."
 -- Assumes nothing.
-use mathlib.Core.Bool.{Bool, true, false, not, _||_}
-use mathlib.Core.List.{List, [], _∷_, _++_}
+use mathlib.Core.Bool.{Bool, true, false, not}
+use mathlib.Core.List.{List, [], _∷_}
 use Prim.Native.Nat.{ℕ, _-_, _%_}
 use lib.Dec.{eqb, leb, ltb}
 use lib.ListN.{length}

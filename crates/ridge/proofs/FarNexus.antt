@@ -1,19 +1,16 @@
 -- A nexus above 15 is refused whatever its number is, so that one which does not fit a byte may be given as another.
 -- Assumes nothing.
-use mathlib.Core.Path.{_≡_, refl, sym, ap, _∙_}
-use mathlib.Core.List.{List, _++_}
-use Prim.Native.Nat.{ℕ, _<_, _≤_}
-use native.Mathlib.Omega.{arith}
+use mathlib.Core.Path.{_≡_}
+use Prim.Native.Nat.{_<_}
 use borrow.Author.Tests.{lt-ltb}
-use Rattle.answers.specs.declared.Answer.{Answer}
 use Rattle.answers.specs.declared.Answer.the-variants.{Unusable}
 use Rattle.answers.specs.Answers.{senseAfter}
-use Rattle.answers.specs.Order.{ifGood, ifGoodBy, refuses}
+use Rattle.answers.specs.Order.{ifGoodBy, refuses}
 use Rattle.answers.proofs.OrderLaws.{row-stop}
 use Rattle.forms.specs.declared.Form.{Form}
 use Rattle.forms.specs.Forms.{formOf}
-use Rattle.store.specs.Store.{Store, Call, Result, seenOf}
-use Rattle.store.specs.Step.{callRows, answerBy, dataBy, storeBy, stepBy, step}
+use Rattle.store.specs.Store.{Store, Call, seenOf}
+use Rattle.store.specs.Step.{callRows, answerBy, stepBy, step}
 
 far-answer : (f : Form) (s : Store) (c : Call) → 15 < c .nexus → answerBy f s c ≡ Unusable
 unfolding answerBy callRows

@@ -3,21 +3,21 @@
 use mathlib.Core.Path.{_≡_, refl, sym, ap, _∙_}
 use mathlib.Core.Bool.{Bool, true, false, cond}
 use mathlib.Core.List.{List}
-use Prim.Native.Nat.{ℕ, _<_, _≤_}
+use Prim.Native.Nat.{ℕ}
 use native.Mathlib.Omega.{arith}
-use borrow.Author.Tests.{ltb-true, ltb-false, eq-eqb, ne-eqb}
-use lib.Dec.{ltb, eqb}
+use borrow.Author.Tests.{ltb-false, eq-eqb, ne-eqb}
+use lib.Dec.{ltb}
 use lib.ListN.{length}
 use Rattle.answers.specs.Answers.{numberOf}
 use Rattle.answers.specs.Order.{ifGood}
 use Rattle.reply.specs.declared.Outcome.{Outcome}
 use Rattle.reply.specs.declared.Made.{Made}
-use Rattle.store.specs.Store.{Store, Call, Result}
+use Rattle.store.specs.Store.{Store}
 use Rattle.store.specs.Step.{step}
-use Rattle.store.specs.Fresh.{fresh, FreshResult}
+use Rattle.store.specs.Fresh.{fresh}
 use Rattle.reply.specs.Contract.{storeOf, callOf, left, made}
 use Rattle.ridge.specs.Words.{fit, unitIn, wordsOf}
-use Rattle.ridge.specs.Interface.{Left, leftBy, unreadable, executed, FreshLeft, freshBy, freshened, pool, call, leaves, leavesFresh}
+use Rattle.ridge.specs.Interface.{leftBy, unreadable, executed, freshBy, freshened, pool, call, leaves, leavesFresh}
 use Rattle.ridge.proofs.FarNexus.{far-step}
 
 -- ---- a call

@@ -1,14 +1,14 @@
 -- Laws of the state words: what words that fit allow, and that a unit's words hold it.
 -- Assumes nothing.
-use mathlib.Core.Path.{_≡_, refl, sym, ap, _∙_}
-use mathlib.Core.Bool.{Bool, true, false, _&&_, true≢false, false≢true}
-use mathlib.Core.List.{List, [], _∷_}
+use mathlib.Core.Path.{_≡_, refl}
+use mathlib.Core.Bool.{Bool, true, false, _&&_, false≢true}
+use mathlib.Core.List.{List}
 use Prim.Native.Nat.{ℕ, zero, suc, _+_, _-_, _^_, _<_, _≤_}
 use native.Mathlib.Omega.{arith}
 use borrow.Author.Tests.{eqb-true, eqb-false, ltb-true, lt-ltb, le-ltb, eq-eqb, ne-eqb}
 use lib.Dec.{eqb, ltb}
 use lib.ListN.{length, getD}
-use Rattle.ridge.specs.Words.{word, placeIn, unitIn, fitByte, fit, nexusAt, keyAt, wordsOf}
+use Rattle.ridge.specs.Words.{word, fitByte, fit}
 
 and-first : (a b : Bool) → (a && b) ≡ true → a ≡ true
 and-first true b e = refl

@@ -1,6 +1,6 @@
 -- What the two functions of the C interface leave, by `step` and `fresh`.
 -- Assumes nothing.
-use mathlib.Core.Bool.{Bool, true, false, _&&_, cond}
+use mathlib.Core.Bool.{cond}
 use mathlib.Core.List.{List}
 use Prim.Native.Nat.{ℕ}
 use lib.Dec.{eqb}
@@ -8,8 +8,7 @@ use lib.ListN.{length}
 use Rattle.answers.specs.Answers.{numberOf}
 use Rattle.answers.specs.Order.{ifGood}
 use Rattle.pool.specs.Pool.{Pool}
-use Rattle.store.specs.declared.Unit.{Unit}
-use Rattle.store.specs.Store.{Store, Call, Seen, Result}
+use Rattle.store.specs.Store.{Call, Result}
 use Rattle.store.specs.Step.{step}
 use Rattle.store.specs.Fresh.{fresh, FreshResult}
 use Rattle.ridge.specs.Words.{fit, unitIn, wordsOf}

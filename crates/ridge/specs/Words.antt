@@ -1,6 +1,6 @@
 -- The unit's record in lent words, as ridge.h has them: 0 capacity, 1 generation, 2 reservation type, 3 holder, 4-11 the places' nexuses, 12-19 their keys.
 -- Assumes nothing.
-use mathlib.Core.Bool.{Bool, true, false, _&&_}
+use mathlib.Core.Bool.{Bool, true, _&&_}
 use mathlib.Core.List.{List, [], _∷_}
 use Prim.Native.Nat.{ℕ, zero, suc, _+_, _^_}
 use lib.Dec.{eqb, ltb}

@@ -1,6 +1,5 @@
 // The C interface of the store: numbers and lent slices only, so that C and Rust can call it. host/include/ridge.h declares it.
 ghost use mathlib.Core.Path.{_≡_};
-ghost use lib.ListN.{length};
 ghost use Rattle.ridge.specs.Interface.{executed, freshened, leaves, leavesFresh, pool, call};
 use answers::Answer;
 

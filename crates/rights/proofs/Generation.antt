@@ -12,7 +12,7 @@ use Rattle.rights.specs.declared.Rights.{Rights}
 use Rattle.rights.specs.declared.Parameters.{Parameters}
 use Rattle.rights.specs.declared.Action.{Action}
 use Rattle.rights.specs.declared.Action.the-variants.{Register, Reserve, Release, Clear, Preempt, RegisterIgnoring}
-use Rattle.rights.specs.Places.{registered, rekeyed, enrol, without, nobody, sender}
+use Rattle.rights.specs.Places.{registered, rekeyed, enrol}
 use Rattle.rights.specs.Rights.{gone, holderKey, holds, held, ended, withPlaces, settled, raised}
 use Rattle.rights.specs.Actions.{decisionRows, registering, reserving, releasing, clearing, preempting, acted, decided}
 

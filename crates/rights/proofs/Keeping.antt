@@ -6,7 +6,7 @@ use mathlib.Core.List.{List, [], _∷_, map}
 use Prim.Native.Nat.{ℕ, suc, _≤_}
 use lib.Dec.{T, eqb, leb, eqb→eq, eqb-refl, le→leb, T-not}
 use lib.ListN.{length, length-map}
-use Rattle.fields.proofs.Tests.{and-l, and-r, both, or-l, or-r, or-map, or-map², and-map, nor-l, nor-r, nor, not-map, not-not, nand-rest, true→T, false→T, by-test}
+use Rattle.fields.proofs.Tests.{and-l, and-r, both, or-l, or-r, or-map, or-map², nor-l, nor-r, nor, not-map, not-not, nand-rest, true→T, false→T, by-test}
 use Rattle.answers.specs.declared.Answer.the-variants.{Good, Conflict}
 use Rattle.answers.specs.Answers.{listField}
 use Rattle.answers.specs.Order.{first, refuses}

@@ -1,10 +1,9 @@
 -- The six actions of PERSISTENT RESERVE OUT: when each is refused, and what it changes.
 -- Assumes nothing.
-use mathlib.Core.Bool.{Bool, true, false, not, _&&_, _||_, cond}
-use mathlib.Core.List.{List, [], _∷_, _++_, map}
+use mathlib.Core.Bool.{Bool, false, not, _&&_, _||_, cond}
+use mathlib.Core.List.{List, [], _∷_, map}
 use Prim.Native.Nat.{ℕ}
 use lib.Dec.{eqb}
-use Rattle.answers.specs.declared.Answer.{Answer}
 use Rattle.answers.specs.declared.Answer.the-variants.{Conflict}
 use Rattle.answers.specs.Answers.{listField, noPlace, otherType}
 use Rattle.answers.specs.Order.{Row, _if_, first, ifGood}

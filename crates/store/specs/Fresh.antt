@@ -7,7 +7,7 @@ use lib.ListN.{length}
 use Rattle.fields.specs.Bytes.{zeros}
 use Rattle.answers.specs.declared.Answer.{Answer}
 use Rattle.answers.specs.declared.Answer.the-variants.{Unusable}
-use Rattle.answers.specs.Order.{Row, _if_, first, ifGood}
+use Rattle.answers.specs.Order.{_if_, first, ifGood}
 use Rattle.pool.specs.Valid.{capacityOk, slotsOk}
 use Rattle.rights.specs.Rights.{noRights}
 use Rattle.store.specs.declared.Unit.{Unit}

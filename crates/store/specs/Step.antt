@@ -1,6 +1,6 @@
 -- One call: the one order of tests, and what comes of it.
 -- Assumes nothing.
-use mathlib.Core.Bool.{Bool, not}
+use mathlib.Core.Bool.{not}
 use mathlib.Core.List.{List, [], _∷_, _++_}
 use Prim.Native.Nat.{ℕ}
 use lib.Dec.{eqb, ltb}
@@ -16,8 +16,7 @@ use Rattle.forms.specs.declared.Command.the-variants.{Tells, Moves, Alters, Unk
 use Rattle.forms.specs.declared.Form.{Form}
 use Rattle.forms.specs.Forms.{formOf}
 use Rattle.forms.specs.Tests.{formRows}
-use Rattle.store.specs.declared.Unit.{Unit}
-use Rattle.store.specs.Store.{Store, Call, Seen, Result, usable, seenOf}
+use Rattle.store.specs.Store.{Store, Call, Result, usable, seenOf}
 use Rattle.store.specs.Tell.{told, tellRows}
 use Rattle.store.specs.Move.{moveRows, moved, fetched}
 use Rattle.store.specs.Alter.{parametersOf, alterRows}

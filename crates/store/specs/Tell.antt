@@ -1,6 +1,6 @@
 -- Commands that tell what everybody may know: TEST UNIT READY, INQUIRY, READ CAPACITY(10) and (16), PERSISTENT RESERVE IN.
 -- They see the unit's record alone, and change nothing. Assumes nothing.
-use mathlib.Core.Bool.{Bool, true, false, cond}
+use mathlib.Core.Bool.{cond}
 use mathlib.Core.List.{List, [], _∷_, _++_}
 use Prim.Native.Nat.{ℕ, _-_, min}
 use lib.Dec.{eqb, ltb}

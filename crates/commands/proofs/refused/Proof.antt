@@ -1,6 +1,5 @@
 -- `commands::refused` meets its contract.
 -- Assumes nothing.
-use borrow.Author.Needs.{needs}
 use Rattle.store.specs.Fresh.{freshUnit}
 use Rattle.commands.proofs.refused.Statement.{statement}
 use Rattle.commands.proofs.refused.Tie as tie

@@ -1,4 +1,3 @@
-use mathlib.Core.Path.{refl}
 use Rattle.ridge.specs.Words.{nexusAt}
 use borrow.Author.Needs.{needs}
 use Rattle.ridge.proofs.words.nexus_at.Statement.{statement}

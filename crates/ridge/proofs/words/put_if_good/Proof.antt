@@ -1,4 +1,4 @@
-use Rattle.answers.specs.Order.{ifGood, ifGoodBy, refuses}
+use Rattle.answers.specs.Order.{ifGoodBy, refuses}
 use borrow.Author.Needs.{needs}
 use Rattle.ridge.proofs.words.put_if_good.Statement.{statement}
 use Rattle.ridge.proofs.words.put_if_good.Tie as tie

@@ -1,7 +1,6 @@
 use native.Mathlib.Omega.{arith}
 use Rattle.ridge.specs.Words.{word, unitIn}
 use Rattle.ridge.proofs.WordLaws.{place-fits, fit-byte, fit-short, fit-length}
-use borrow.Author.Needs.{needs}
 use Rattle.ridge.proofs.words.unit_in.Statement.{statement}
 use Rattle.ridge.proofs.words.unit_in.Tie as tie
 use Rattle.ridge.proofs.words.unit_in.Reads as reads

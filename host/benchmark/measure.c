@@ -8,7 +8,7 @@
      measure execute NUMBER CALLS  restores it and executes, CALLS times
      measure timing NUMBER CALLS   prints nanoseconds per call
 
-   An operation may change the store, so every program copies state and owners
+   An operation may change the store, so every program copies record and owners
    back before each call; `restore` does that alone, and the difference of the
    two runs is the cost of the calls. Nothing else is cleared or restored: the
    medium, data-in and sense keep what earlier calls left. */
@@ -43,7 +43,8 @@ struct operation {
     size_t slots, full, places, moved;
     enum layout layout;
     unsigned step;
-    uint64_t type, holder, nexus, answer, key, action_key;
+    uint32_t type;
+    uint64_t holder, nexus, answer, key, action_key;
     enum sends sends;
     size_t cdb_bytes;
     uint8_t cdb[16];
@@ -124,7 +125,7 @@ static const struct operation operations[] = {
 enum { OPERATIONS = sizeof operations / sizeof operations[0] };
 
 static const struct operation *operation;
-static _Alignas(64) uint64_t state[RIDGE_STATE_WORDS], saved_state[RIDGE_STATE_WORDS];
+static _Alignas(64) struct ridge_unit unit, saved_unit;
 static _Alignas(64) uint64_t owners[RIDGE_SLOTS], saved_owners[RIDGE_SLOTS];
 static _Alignas(64) uint8_t medium[TRANSFER_BYTES];
 static _Alignas(64) uint8_t data_out[TRANSFER_BYTES];
@@ -172,13 +173,14 @@ static void prepare_owners(void)
 
 static void prepare_store(void)
 {
-    saved_state[RIDGE_WORD_CAPACITY] =
+    struct ridge_rights *rights = &saved_unit.rights;
+    saved_unit.capacity =
         operation->layout == SCATTERED ? CAPACITY : RIDGE_CAPACITY_LAST;
-    saved_state[RIDGE_WORD_TYPE] = operation->type;
-    saved_state[RIDGE_WORD_HOLDER] = operation->holder;
+    rights->type = operation->type;
+    rights->holder = operation->holder;
     for (size_t place = 0; place < operation->places; place++) {
-        saved_state[RIDGE_WORD_NEXUS + place] = place;
-        saved_state[RIDGE_WORD_KEY + place] = 0x10 + place;
+        rights->places[place].nexus = place;
+        rights->places[place].key = 0x10 + place;
     }
     prepare_owners();
     for (size_t i = 0; i < sizeof medium; i++)
@@ -224,7 +226,7 @@ static void prepare(void)
 
 static void restore(void)
 {
-    memcpy(state, saved_state, sizeof state);
+    memcpy(&unit, &saved_unit, sizeof unit);
     memcpy(owners, saved_owners, sizeof owners);
 }
 
@@ -250,7 +252,7 @@ static void call(void)
     static uint8_t sense[RIDGE_SENSE_BYTES];
     uint64_t returned;
     answer = ridge_execute(
-        state, RIDGE_STATE_WORDS, owners, operation->slots, medium,
+        &unit, owners, operation->slots, medium,
         operation->slots * RIDGE_BLOCK_BYTES, operation->nexus, operation->cdb,
         operation->cdb_bytes, data_out, data_out_bytes, data_in, sizeof data_in,
         sense, sizeof sense, &returned);

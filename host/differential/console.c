@@ -1,5 +1,5 @@
 /*
- * console.c - numbers given to the test programs, seeds, and progress;
+ * console.c - numbers given to the test programs, seeds, progress and stores;
  * console.h says what for.
  */
 
@@ -82,4 +82,21 @@ void console_tell(struct progress *progress, uint64_t done)
     progress->told = now;
     fprintf(stderr, "%s: %" PRIu64 " of %" PRIu64 " %s\n", progress->program,
             done, progress->total, progress->unit);
+}
+
+void console_store(const struct ridge_unit *unit, const uint64_t *owners,
+                   size_t slots)
+{
+    const struct ridge_rights *rights = &unit->rights;
+
+    printf("  capacity %" PRIX64 ", generation %" PRIX32 ", type %" PRIX32
+           ", holder %" PRIX64 "\n  places, nexus:key",
+           unit->capacity, rights->generation, rights->type, rights->holder);
+    for (size_t place = 0; place < RIDGE_PLACES; place++)
+        printf(" %" PRIX64 ":%" PRIX64, rights->places[place].nexus,
+               rights->places[place].key);
+    printf("\n  owners of %zu slots", slots);
+    for (size_t slot = 0; slot < slots; slot++)
+        printf(" %" PRIX64, owners[slot]);
+    printf("\n");
 }

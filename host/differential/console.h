@@ -1,13 +1,16 @@
 /*
  * console.h - what a test program and whoever runs it say to each other: how
- * many calls, from which seed, and how far a long run is.
+ * many calls, from which seed, how far a long run is, and what a store holds.
  */
 
 #ifndef CONSOLE_H
 #define CONSOLE_H
 
+#include <stddef.h>
 #include <stdint.h>
 #include <time.h>
+
+#include "../include/ridge.h"
 
 /*
  * The number that the word writes in decimal digits, nothing beside them. Any
@@ -33,5 +36,9 @@ struct progress console_progress(const char *program, const char *unit,
 
 /* Says on standard error how far the run is, once in a few seconds. */
 void console_tell(struct progress *progress, uint64_t done);
+
+/* Prints a store's record and owners, numbers in hex. */
+void console_store(const struct ridge_unit *unit, const uint64_t *owners,
+                   size_t slots);
 
 #endif

@@ -12,11 +12,12 @@
  * sides. After each call: the answers and the returned counts are equal, so is
  * every byte of every buffer, and what 01 says of all calls holds (a refusal
  * changes nothing, sense is written for the answers 1 to 8 only, data-in not
- * past the returned bytes, CDB, data-out and guards never).
+ * past the returned bytes, CDB, data-out and guards never; 11 for each of the
+ * reasons that come first in 01's order).
  *
  * Exit status: 0 no difference and every answer met often enough; 1 a
- * difference, which is printed; 2 an answer or command too rare (asked of long
- * runs alone), bad usage.
+ * difference, which is printed; 2 an answer, command or damage too rare (asked
+ * of long runs alone), bad usage.
  */
 
 #include <inttypes.h>
@@ -26,6 +27,7 @@
 
 #include "../second/second.h"
 #include "console.h"
+#include "damage.h"
 #include "generate.h"
 
 enum {
@@ -33,43 +35,57 @@ enum {
     CALLS_LONG = 100000, /* from here on every answer must be met often */
     GUARD = 64,         /* bytes before and after each buffer */
     EXTRA_SLOTS = 2,    /* so that 129 slots can be lent */
-    STATE_ROOM = 8 * (RIDGE_STATE_WORDS + 4),
-    OWNERS_ROOM = 8 * (RIDGE_SLOTS + EXTRA_SLOTS),
-    MEDIUM_ROOM = RIDGE_BLOCK_BYTES * (RIDGE_SLOTS + EXTRA_SLOTS)
+    ROOM_SLOTS = RIDGE_SLOTS + EXTRA_SLOTS
 };
 
-enum part { STATE, OWNERS, MEDIUM, CDB, DATA_OUT, DATA_IN, SENSE, PARTS };
+enum part { UNIT, OWNERS, MEDIUM, CDB, DATA_OUT, DATA_IN, SENSE, PARTS };
 
 static const char *const part_names[PARTS] = {
-    "state", "owners", "medium", "cdb", "data-out", "data-in", "sense"};
+    "unit", "owners", "medium", "cdb", "data-out", "data-in", "sense"};
 
-static const size_t part_rooms[PARTS] = {STATE_ROOM, OWNERS_ROOM, MEDIUM_ROOM,
-                                         CDB_ROOM,   DATA_ROOM,   DATA_ROOM,
-                                         SENSE_ROOM};
-
-enum {
-    WORLD_BYTES = STATE_ROOM + OWNERS_ROOM + MEDIUM_ROOM + CDB_ROOM +
-                  2 * DATA_ROOM + SENSE_ROOM + PARTS * 2 * GUARD
-};
-
-/* All that is lent to one library, and what it answered. The array is of words
-   since words may be read as bytes, but not the other way round. */
+/* All that is lent to one library, with guards before and after each part, and
+   what it answered. */
 struct world {
-    uint64_t words[WORLD_BYTES / 8];
+    uint8_t guard_of_unit[GUARD];
+    struct ridge_unit unit;
+    uint8_t guard_of_owners[2 * GUARD];
+    uint64_t owners[ROOM_SLOTS];
+    uint8_t guard_of_medium[2 * GUARD];
+    uint8_t medium[ROOM_SLOTS * RIDGE_BLOCK_BYTES];
+    uint8_t guard_of_cdb[2 * GUARD];
+    uint8_t cdb[CDB_ROOM];
+    uint8_t guard_of_data_out[2 * GUARD];
+    uint8_t data_out[DATA_ROOM];
+    uint8_t guard_of_data_in[2 * GUARD];
+    uint8_t data_in[DATA_ROOM];
+    uint8_t guard_of_sense[2 * GUARD];
+    uint8_t sense[SENSE_ROOM];
+    uint8_t guard_of_end[GUARD];
     uint64_t answer;
     uint64_t returned;
 };
 
-/* What one call lends: bytes of each part, and who sends it. */
+static const size_t part_offsets[PARTS] = {
+    offsetof(struct world, unit),     offsetof(struct world, owners),
+    offsetof(struct world, medium),   offsetof(struct world, cdb),
+    offsetof(struct world, data_out), offsetof(struct world, data_in),
+    offsetof(struct world, sense)};
+
+/* What one call lends: bytes of each part, and who sends it. The store is whole
+   if nothing was spoiled; 11 is due if the call is known to be unusable, or the
+   state to be invalid, by how it was made. */
 struct lending {
     size_t bytes[PARTS];
     uint64_t nexus;
+    bool whole;
+    bool due_11;
 };
 
 struct figures {
     uint64_t calls;
     uint64_t fresh;
     uint64_t damaged;
+    uint64_t damages[DAMAGE_WAYS];
     uint64_t large_reads;  /* good, of 100 blocks and more */
     uint64_t large_writes;
     uint64_t answers[16];
@@ -95,16 +111,7 @@ struct run {
 /* Where a part begins; its guard lies before it. */
 static uint8_t *part_of(struct world *world, enum part part)
 {
-    size_t at = GUARD;
-
-    for (size_t lower = 0; lower < part; lower++)
-        at += part_rooms[lower] + 2 * GUARD;
-    return (uint8_t *)world->words + at;
-}
-
-static uint64_t *words_of(struct world *world, enum part part)
-{
-    return (uint64_t *)(void *)part_of(world, part);
+    return (uint8_t *)world + part_offsets[part];
 }
 
 /* Random bytes in a part and its guards, as far as the call may see them. */
@@ -147,24 +154,15 @@ static void print_hex(const char *name, const uint8_t *bytes, size_t count)
     printf("%s\n", count > SHOWN ? " ..." : "");
 }
 
-static void print_words(const char *name, const uint64_t *words, size_t count)
-{
-    printf("  %s (%zu words)", name, count);
-    for (size_t index = 0; index < count; index++)
-        printf(" %" PRIX64, words[index]);
-    printf("\n");
-}
-
 static void print_outcome(struct run *run, const char *name,
                           struct world *world)
 {
     printf("%s: answer %" PRIu64 ", returned %" PRIu64 "\n", name,
            world->answer, world->returned);
-    print_words("state", words_of(world, STATE), run->lending.bytes[STATE] / 8);
-    print_words("owners", words_of(world, OWNERS),
-                run->lending.bytes[OWNERS] / 8);
-    print_hex("data-in", part_of(world, DATA_IN), run->lending.bytes[DATA_IN]);
-    print_hex("sense", part_of(world, SENSE), run->lending.bytes[SENSE]);
+    console_store(&world->unit, world->owners,
+                  run->lending.bytes[OWNERS] / 8);
+    print_hex("data-in", world->data_in, run->lending.bytes[DATA_IN]);
+    print_hex("sense", world->sense, run->lending.bytes[SENSE]);
 }
 
 /* Prints what is needed to find the call again, and ends the program. */
@@ -176,9 +174,8 @@ static void fail(struct run *run, const char *what)
            run->seed, run->figures.calls, run->figures.fresh);
     printf("the call: nexus %" PRIu64 ", medium of %zu bytes\n",
            run->lending.nexus, run->lending.bytes[MEDIUM]);
-    print_hex("cdb", part_of(&run->before, CDB), run->lending.bytes[CDB]);
-    print_hex("data-out", part_of(&run->before, DATA_OUT),
-              run->lending.bytes[DATA_OUT]);
+    print_hex("cdb", run->before.cdb, run->lending.bytes[CDB]);
+    print_hex("data-out", run->before.data_out, run->lending.bytes[DATA_OUT]);
     run->before.answer = run->before.returned = 0;
     print_outcome(run, "before", &run->before);
     print_outcome(run, "ridge", &run->ridge);
@@ -251,11 +248,13 @@ static void hold_rules(struct run *run)
     bool has_sense = run->ridge.answer >= RIDGE_CODE_NOT_LISTED &&
                      run->ridge.answer <= RIDGE_POOL_FULL;
 
+    if (run->lending.due_11 && run->ridge.answer != RIDGE_UNUSABLE)
+        fail(run, "another answer where 11 is due");
     if (!good && run->ridge.returned != 0)
         fail(run, "bytes returned on a refusal");
     if (run->ridge.returned > run->lending.bytes[DATA_IN])
         fail(run, "more bytes returned than lent");
-    for (enum part part = STATE; part <= MEDIUM; part++)
+    for (enum part part = UNIT; part <= MEDIUM; part++)
         hold_unchanged(run, part, good ? run->lending.bytes[part] : 0);
     hold_unchanged(run, CDB, 0);
     hold_unchanged(run, DATA_OUT, 0);
@@ -270,30 +269,32 @@ static void lend_request(struct run *run)
     const struct request *request = &run->request;
     struct lending *lending = &run->lending;
 
+    memset(lending, 0, sizeof *lending);
     lending->nexus = request->nexus;
-    lending->bytes[STATE] = 8 * RIDGE_STATE_WORDS;
+    lending->bytes[UNIT] = sizeof run->store.unit;
     lending->bytes[OWNERS] = 8 * run->store.slots;
     lending->bytes[MEDIUM] = RIDGE_BLOCK_BYTES * run->store.slots;
     lending->bytes[CDB] = request->cdb_bytes;
     lending->bytes[DATA_OUT] = request->data_out_bytes;
     lending->bytes[DATA_IN] = request->data_in_bytes;
     lending->bytes[SENSE] = request->sense_bytes;
+    lending->due_11 = request->nexus > RIDGE_NEXUS_LAST ||
+                      request->cdb_bytes == 0 ||
+                      request->sense_bytes < RIDGE_SENSE_BYTES;
 }
 
-/* Lends another number of words, slots or medium bytes than the store has. */
+/* Lends another number of slots or medium bytes than the store has. */
 static void damage_sizes(struct run *run)
 {
     size_t *bytes = run->lending.bytes;
 
-    switch (random_below(&run->random, 4)) {
+    run->lending.due_11 = true;
+    switch (random_below(&run->random, 3)) {
     case 0:
-        bytes[STATE] = 8 * (size_t)RANDOM_CHOICE(&run->random, 0, 1, 19, 21);
-        break;
-    case 1:
         bytes[OWNERS] = 8 * (size_t)RANDOM_CHOICE(&run->random, 0, 129);
         bytes[MEDIUM] = bytes[OWNERS] / 8 * RIDGE_BLOCK_BYTES;
         break;
-    case 2:
+    case 1:
         bytes[MEDIUM] = (size_t)RANDOM_CHOICE(
             &run->random, 0, bytes[MEDIUM] - 1, bytes[MEDIUM] + 1,
             bytes[MEDIUM] - 512, bytes[MEDIUM] + 512);
@@ -304,173 +305,65 @@ static void damage_sizes(struct run *run)
     }
 }
 
-/* An owner above the capacity, or two slots of one block; in half of the cases
-   at the last slots, which a check that ends early would not see. */
-static void damage_map(struct run *run, uint64_t *owners)
-{
-    size_t slots = run->store.slots;
-    bool last = random_percent(&run->random, 50);
-    size_t slot = last ? slots - 1 : (size_t)random_below(&run->random, slots);
-    size_t other = last && slots > 1
-                       ? slots - 2
-                       : (size_t)random_below(&run->random, slots);
-    uint64_t capacity = run->store.state[RIDGE_WORD_CAPACITY];
-
-    if (other == slot || random_percent(&run->random, 45)) {
-        owners[slot] = RANDOM_CHOICE(&run->random, capacity + 1, UINT64_MAX,
-                                     (UINT64_C(1) << 32) + capacity);
-        return;
-    }
-    if (owners[slot] == 0)
-        owners[slot] = capacity;
-    owners[other] = owners[slot];
-}
-
-/* Places: a nexus too large, one used twice, one where no key is. */
-static void damage_places(struct run *run, uint64_t *state)
-{
-    size_t place = (size_t)random_below(&run->random, RIDGE_PLACES);
-    size_t other = (size_t)random_below(&run->random, RIDGE_PLACES);
-    uint64_t *nexus = state + RIDGE_WORD_NEXUS;
-    uint64_t *key = state + RIDGE_WORD_KEY;
-
-    switch (random_below(&run->random, 4)) {
-    case 0:
-        nexus[place] = RANDOM_CHOICE(&run->random, 16, 255,
-                                     256 + nexus[place],
-                                     (UINT64_C(1) << 32) + nexus[place]);
-        break;
-    case 1:
-        nexus[place] = nexus[other];
-        key[place] = key[place] == 0 ? 5 : key[place];
-        break;
-    case 2:
-        nexus[place] = 1 + random_below(&run->random, 15);
-        key[place] = 0;
-        break;
-    default:
-        key[place] = 0;
-        break;
-    }
-}
-
-/* Reservation: a type not known, a holder that is none, nobody registered. */
-static void damage_reservation(struct run *run, uint64_t *state)
-{
-    uint64_t *type = state + RIDGE_WORD_TYPE;
-    uint64_t *holder = state + RIDGE_WORD_HOLDER;
-
-    switch (random_below(&run->random, 5)) {
-    case 0:
-        *type = RANDOM_CHOICE(&run->random, 2, 4, 9, 15, 255, 256 + *type,
-                              (UINT64_C(1) << 32) + *type, UINT64_MAX);
-        break;
-    case 1:
-        *holder = RANDOM_CHOICE(&run->random, random_below(&run->random, 16),
-                                16, 255, 256 + *holder,
-                                (UINT64_C(1) << 32) + *holder);
-        break;
-    case 2:
-        *type = 0;
-        break;
-    case 3:
-        *type = RANDOM_CHOICE(&run->random, 1, 3, 5, 6, 7, 8);
-        break;
-    default:
-        memset(state + RIDGE_WORD_NEXUS, 0, 16 * sizeof *state);
-        *type = RANDOM_CHOICE(&run->random, 1, 3, 5, 6, 7, 8);
-        *holder = 0;
-        break;
-    }
-}
-
 static bool is_large(const struct store *store)
 {
     return store->slots >= LARGE_SLOTS;
 }
 
-/* Spoils the lent store; some of these leave it valid, which is as well. The
-   map of a large one has most to spoil. */
-static void damage_store(struct run *run)
+static void damage_lent(struct run *run)
 {
-    uint64_t *state = words_of(&run->before, STATE);
-    bool map = is_large(&run->store) && random_percent(&run->random, 50);
+    struct lent lent = {&run->before.unit, run->before.owners,
+                        run->store.slots};
+    size_t way = damage_store(&run->random, &lent);
 
-    switch (map ? 0 : random_below(&run->random, 5)) {
-    case 0:
-        damage_map(run, words_of(&run->before, OWNERS));
-        break;
-    case 1:
-        damage_places(run, state);
-        break;
-    case 2:
-        damage_reservation(run, state);
-        break;
-    case 3:
-        state[RIDGE_WORD_GENERATION] = RANDOM_CHOICE(
-            &run->random, UINT64_C(1) << 32, (UINT64_C(1) << 32) + 7,
-            UINT64_MAX, UINT32_MAX);
-        break;
-    default:
-        state[RIDGE_WORD_CAPACITY] = RANDOM_CHOICE(
-            &run->random, 0, RIDGE_CAPACITY_LAST + 1, UINT64_MAX,
-            UINT64_C(1) << 63, RIDGE_CAPACITY_LAST);
-        break;
-    }
+    run->lending.due_11 |= damage_is_invalid(way);
+    run->figures.damages[way]++;
 }
 
 /*
- * At times what lies behind the state and the owners looks like more of them:
- * the key that the call names, the block of another slot. A library that reads
- * one word too far then answers otherwise.
+ * At times what lies behind the owners looks like one more of them, the block
+ * of another slot. A library that reads one word too far then answers
+ * otherwise.
  */
 static void mimic_behind(struct run *run)
 {
-    const struct request *request = &run->request;
-    const size_t *bytes = run->lending.bytes;
-    uint64_t key = 0;
-
-    for (size_t index = 8; index < 16; index++)
-        key = key << 8 | request->data_out[index];
     if (random_percent(&run->random, 50))
-        words_of(&run->before, STATE)[bytes[STATE] / 8] = key;
-    if (random_percent(&run->random, 50))
-        words_of(&run->before, OWNERS)[bytes[OWNERS] / 8] =
+        run->before.owners[run->lending.bytes[OWNERS] / 8] =
             run->store.owners[random_below(&run->random, run->store.slots)];
 }
 
-/* Fills `before`; returns whether the store is lent as it is. */
-static bool prepare(struct run *run)
+/* Fills `before`, mostly with the store as it is. */
+static void prepare(struct run *run)
 {
     const struct request *request = &run->request;
     bool whole = !random_percent(&run->random, is_large(&run->store) ? 15 : 6);
     bool sizes = !whole && random_percent(&run->random, 25);
 
     lend_request(run);
+    run->lending.whole = whole;
     if (sizes)
         damage_sizes(run);
     for (enum part part = 0; part < PARTS; part++)
         if (part != MEDIUM || run->lending.bytes[MEDIUM] !=
                                   RIDGE_BLOCK_BYTES * run->store.slots)
             fill_part(run, part);
-    put_part(run, STATE, run->store.state, sizeof run->store.state);
+    put_part(run, UNIT, &run->store.unit, sizeof run->store.unit);
     put_part(run, OWNERS, run->store.owners, 8 * run->store.slots);
     put_part(run, MEDIUM, run->store.medium,
              RIDGE_BLOCK_BYTES * run->store.slots);
     put_part(run, CDB, request->cdb, request->cdb_bytes);
     put_part(run, DATA_OUT, request->data_out, request->data_out_bytes);
     if (!whole && !sizes)
-        damage_store(run);
+        damage_lent(run);
     mimic_behind(run);
     run->figures.damaged += whole ? 0 : 1;
-    return whole;
 }
 
 typedef uint64_t execute_function(
-    uint64_t *state, size_t state_words, uint64_t *owners, size_t slots,
-    uint8_t *medium, size_t medium_bytes, uint64_t nexus, const uint8_t *cdb,
-    size_t cdb_bytes, const uint8_t *data_out, size_t data_out_bytes,
-    uint8_t *data_in, size_t data_in_bytes, uint8_t *sense, size_t sense_bytes,
+    struct ridge_unit *unit, uint64_t *owners, size_t slots, uint8_t *medium,
+    size_t medium_bytes, uint64_t nexus, const uint8_t *cdb, size_t cdb_bytes,
+    const uint8_t *data_out, size_t data_out_bytes, uint8_t *data_in,
+    size_t data_in_bytes, uint8_t *sense, size_t sense_bytes,
     uint64_t *returned);
 
 static void execute(const struct lending *lending, struct world *world,
@@ -479,12 +372,20 @@ static void execute(const struct lending *lending, struct world *world,
     const size_t *bytes = lending->bytes;
 
     world->answer = function(
-        words_of(world, STATE), bytes[STATE] / 8, words_of(world, OWNERS),
-        bytes[OWNERS] / 8, part_of(world, MEDIUM), bytes[MEDIUM],
-        lending->nexus, part_of(world, CDB), bytes[CDB],
-        part_of(world, DATA_OUT), bytes[DATA_OUT], part_of(world, DATA_IN),
-        bytes[DATA_IN], part_of(world, SENSE), bytes[SENSE],
-        &world->returned);
+        &world->unit, world->owners, bytes[OWNERS] / 8, world->medium,
+        bytes[MEDIUM], lending->nexus, world->cdb, bytes[CDB],
+        world->data_out, bytes[DATA_OUT], world->data_in, bytes[DATA_IN],
+        world->sense, bytes[SENSE], &world->returned);
+}
+
+/* The store goes on as the second program left it. */
+static void keep_store(struct run *run)
+{
+    const struct world *world = &run->second;
+
+    run->store.unit = world->unit;
+    memcpy(run->store.owners, world->owners, run->lending.bytes[OWNERS]);
+    memcpy(run->store.medium, world->medium, run->lending.bytes[MEDIUM]);
 }
 
 /* The bytes tell how many blocks moved, or what room was lent for them. */
@@ -515,15 +416,14 @@ static void count_call(struct run *run)
 
 static void one_call(struct run *run)
 {
-    bool whole;
-
     if (random_percent(&run->random, 4))
         generate_rare(&run->random, &run->store, &run->request);
     else
         generate_request(&run->random, &run->store,
-                         generate_nexus(&run->random, run->store.state),
+                         generate_nexus(&run->random,
+                                        &run->store.unit.rights),
                          &run->request);
-    whole = prepare(run);
+    prepare(run);
     copy_worlds(run);
     run->figures.calls++;
     execute(&run->lending, &run->ridge, ridge_execute);
@@ -531,14 +431,8 @@ static void one_call(struct run *run)
     compare_libraries(run);
     hold_rules(run);
     count_call(run);
-    if (!whole)
-        return;
-    memcpy(run->store.state, part_of(&run->second, STATE),
-           sizeof run->store.state);
-    memcpy(run->store.owners, part_of(&run->second, OWNERS),
-           8 * run->store.slots);
-    memcpy(run->store.medium, part_of(&run->second, MEDIUM),
-           RIDGE_BLOCK_BYTES * run->store.slots);
+    if (run->lending.whole)
+        keep_store(run);
 }
 
 /* ---- Fresh stores ---- */
@@ -551,53 +445,47 @@ static uint64_t fresh_bounds(struct run *run)
     struct lending *lending = &run->lending;
 
     memset(lending, 0, sizeof *lending);
-    lending->bytes[STATE] = 8 * RIDGE_STATE_WORDS;
+    lending->bytes[UNIT] = sizeof(struct ridge_unit);
     lending->bytes[OWNERS] = 8 * slots;
     switch (random_below(&run->random, 8)) {
     case 0:
+        lending->due_11 = true;
         return RANDOM_CHOICE(&run->random, 0, RIDGE_CAPACITY_LAST + 1,
                              UINT64_C(1) << 63, UINT64_MAX);
     case 1:
+        lending->due_11 = true;
         lending->bytes[OWNERS] =
             8 * (size_t)RANDOM_CHOICE(&run->random, 0, 129);
-        break;
-    case 2:
-        lending->bytes[STATE] =
-            8 * (size_t)RANDOM_CHOICE(&run->random, 0, 19, 21);
-        break;
+        return capacity;
     default:
-        break;
+        return capacity;
     }
-    return capacity;
 }
 
 /* Makes a fresh store by both libraries; false if they refuse the bounds. */
 static bool fresh_store(struct run *run)
 {
     uint64_t capacity = fresh_bounds(run);
+    size_t slots = run->lending.bytes[OWNERS] / 8;
 
     for (enum part part = 0; part < PARTS; part++)
         fill_part(run, part);
     copy_worlds(run);
     run->ridge.returned = run->second.returned = 0;
     run->figures.fresh++;
-    run->ridge.answer = ridge_fresh(
-        capacity, words_of(&run->ridge, STATE), run->lending.bytes[STATE] / 8,
-        words_of(&run->ridge, OWNERS), run->lending.bytes[OWNERS] / 8);
-    run->second.answer = second_fresh(
-        capacity, words_of(&run->second, STATE), run->lending.bytes[STATE] / 8,
-        words_of(&run->second, OWNERS), run->lending.bytes[OWNERS] / 8);
+    run->ridge.answer =
+        ridge_fresh(capacity, &run->ridge.unit, run->ridge.owners, slots);
+    run->second.answer =
+        second_fresh(capacity, &run->second.unit, run->second.owners, slots);
     compare_libraries(run);
     hold_rules(run);
-    if (run->second.answer != RIDGE_GOOD)
+    if (run->lending.due_11)
         return false;
-    run->store.slots = run->lending.bytes[OWNERS] / 8;
-    memcpy(run->store.state, part_of(&run->second, STATE),
-           sizeof run->store.state);
-    memcpy(run->store.owners, part_of(&run->second, OWNERS),
-           8 * run->store.slots);
-    random_fill(&run->random, run->store.medium,
-                RIDGE_BLOCK_BYTES * run->store.slots);
+    if (run->ridge.answer != RIDGE_GOOD)
+        fail(run, "good bounds are refused");
+    run->store.slots = slots;
+    keep_store(run);
+    random_fill(&run->random, run->store.medium, RIDGE_BLOCK_BYTES * slots);
     return true;
 }
 
@@ -682,6 +570,19 @@ static bool print_large(const struct figures *figures, uint64_t floor)
     return enough;
 }
 
+static bool print_damages(const struct figures *figures, uint64_t floor)
+{
+    bool enough = true;
+
+    for (size_t way = 0; way < DAMAGE_WAYS; way++) {
+        uint64_t made = figures->damages[way];
+
+        printf("damage, %s: %" PRIu64 "\n", damage_name(way), made);
+        enough &= often_enough(damage_name(way), made, floor);
+    }
+    return enough;
+}
+
 static void run_calls(struct run *run, uint64_t calls)
 {
     struct progress progress = console_progress("differential", "calls", calls);
@@ -707,6 +608,7 @@ static bool print_figures(const struct figures *figures)
 
     enough &= print_commands(figures, floor);
     enough &= print_large(figures, floor);
+    enough &= print_damages(figures, floor / 2);
     return enough;
 }
 

@@ -128,8 +128,7 @@ static void strew_blocks(struct random *random, struct store *store)
     unsigned fill = (unsigned)random_below(random, 101);
 
     for (size_t slot = 0; slot < store->slots; slot++) {
-        uint64_t owner =
-            1 + address_within(random, store->state[RIDGE_WORD_CAPACITY]);
+        uint64_t owner = 1 + address_within(random, store->unit.capacity);
 
         if (random_percent(random, fill) && !is_owner(store, owner))
             store->owners[slot] = owner;
@@ -143,7 +142,7 @@ static void strew_blocks(struct random *random, struct store *store)
  */
 static void fill_in_order(struct random *random, struct store *store)
 {
-    uint64_t capacity = store->state[RIDGE_WORD_CAPACITY];
+    uint64_t capacity = store->unit.capacity;
     uint64_t most = capacity < store->slots ? capacity : store->slots;
     uint64_t spare = capacity - most;
     uint64_t first = random_percent(random, 50)
@@ -179,84 +178,88 @@ static uint64_t generate_key(struct random *random)
     return random_word(random) | 1;
 }
 
-uint64_t key_of(const uint64_t *state, uint64_t nexus)
+uint64_t key_of(const struct ridge_rights *rights, uint64_t nexus)
 {
     for (size_t place = 0; place < RIDGE_PLACES; place++) {
-        if (state[RIDGE_WORD_KEY + place] != 0 &&
-            state[RIDGE_WORD_NEXUS + place] == nexus)
-            return state[RIDGE_WORD_KEY + place];
+        if (rights->places[place].key != 0 &&
+            rights->places[place].nexus == nexus)
+            return rights->places[place].key;
     }
     return 0;
 }
 
-void generate_registrations(struct random *random, uint64_t *state)
+void generate_registrations(struct random *random, struct ridge_rights *rights)
 {
     unsigned fill = (unsigned)RANDOM_CHOICE(random, 0, 30, 60, 90, 100, 100);
 
-    memset(state + RIDGE_WORD_TYPE, 0,
-           (RIDGE_STATE_WORDS - RIDGE_WORD_TYPE) * sizeof *state);
+    memset(rights->places, 0, sizeof rights->places);
+    rights->type = 0;
+    rights->holder = 0;
     for (size_t place = 0; place < RIDGE_PLACES; place++) {
         uint64_t nexus = random_below(random, RIDGE_NEXUS_LAST + 1);
 
-        while (key_of(state, nexus) != 0)
+        while (key_of(rights, nexus) != 0)
             nexus = (nexus + 1) % (RIDGE_NEXUS_LAST + 1);
         if (random_percent(random, fill)) {
-            state[RIDGE_WORD_NEXUS + place] = nexus;
-            state[RIDGE_WORD_KEY + place] = generate_key(random);
+            rights->places[place].nexus = nexus;
+            rights->places[place].key = generate_key(random);
         }
     }
 }
 
-/* A used place, or RIDGE_PLACES if there is none. */
-static size_t used_place(struct random *random, const uint64_t *state)
+size_t generate_place(struct random *random, const struct ridge_rights *rights,
+                      bool used)
 {
     size_t first = (size_t)random_below(random, RIDGE_PLACES);
 
     for (size_t step = 0; step < RIDGE_PLACES; step++) {
         size_t place = (first + step) % RIDGE_PLACES;
 
-        if (state[RIDGE_WORD_KEY + place] != 0)
+        if ((rights->places[place].key != 0) == used)
             return place;
     }
     return RIDGE_PLACES;
 }
 
-void generate_reservation(struct random *random, uint64_t *state, uint64_t type)
+void generate_reservation(struct random *random, struct ridge_rights *rights,
+                          uint32_t type)
 {
-    size_t place = used_place(random, state);
+    size_t place = generate_place(random, rights, true);
 
     if (place == RIDGE_PLACES)
         return;
-    state[RIDGE_WORD_TYPE] = type;
-    state[RIDGE_WORD_HOLDER] =
-        type == 7 || type == 8 ? 0 : state[RIDGE_WORD_NEXUS + place];
+    rights->type = type;
+    rights->holder =
+        type == 7 || type == 8 ? 0 : rights->places[place].nexus;
 }
 
 void generate_store(struct random *random, struct store *store)
 {
+    struct ridge_rights *rights = &store->unit.rights;
+
     store->slots = generate_slots(random);
-    store->state[RIDGE_WORD_CAPACITY] =
-        generate_capacity(random, store->slots);
-    store->state[RIDGE_WORD_GENERATION] =
-        RANDOM_CHOICE(random, 0, 7, UINT32_MAX - 1, UINT32_MAX, 0x01020304);
-    generate_registrations(random, store->state);
+    store->unit.capacity = generate_capacity(random, store->slots);
+    rights->generation = (uint32_t)RANDOM_CHOICE(
+        random, 0, 7, UINT32_MAX - 1, UINT32_MAX, 0x01020304);
+    generate_registrations(random, rights);
     if (random_percent(random, 70))
-        generate_reservation(random, store->state,
-                             RANDOM_CHOICE(random, 1, 3, 5, 6, 7, 8));
+        generate_reservation(random, rights,
+                             (uint32_t)RANDOM_CHOICE(random, 1, 3, 5, 6, 7, 8));
     generate_map(random, store);
 }
 
 /* ---- Parts of a call ---- */
 
-uint64_t generate_nexus(struct random *random, const uint64_t *state)
+uint64_t generate_nexus(struct random *random,
+                        const struct ridge_rights *rights)
 {
-    size_t place = used_place(random, state);
+    size_t place = generate_place(random, rights, true);
 
     if (random_percent(random, 2))
         return RANDOM_CHOICE(random, 16, 17, 255, 256, UINT64_C(1) << 32,
                              UINT64_MAX);
     if (place != RIDGE_PLACES && random_percent(random, 55))
-        return state[RIDGE_WORD_NEXUS + place];
+        return rights->places[place].nexus;
     return random_below(random, RIDGE_NEXUS_LAST + 1);
 }
 
@@ -288,7 +291,7 @@ static size_t generate_size(struct random *random, uint64_t need)
 static uint64_t generate_address(struct random *random,
                                  const struct store *store)
 {
-    uint64_t capacity = store->state[RIDGE_WORD_CAPACITY];
+    uint64_t capacity = store->unit.capacity;
 
     switch (random_below(random, 32)) {
     case 0:
@@ -310,7 +313,7 @@ static uint64_t generate_address(struct random *random,
 static uint64_t generate_count(struct random *random, const struct store *store,
                                uint64_t address)
 {
-    uint64_t left = store->state[RIDGE_WORD_CAPACITY] - address;
+    uint64_t left = store->unit.capacity - address;
     uint64_t count = random_below(random, 6);
 
     switch (random_below(random, 48)) {
@@ -338,7 +341,7 @@ static uint64_t generate_count(struct random *random, const struct store *store,
 static void large_range(struct random *random, const struct store *store,
                         uint64_t *address, uint64_t *count)
 {
-    uint64_t capacity = store->state[RIDGE_WORD_CAPACITY];
+    uint64_t capacity = store->unit.capacity;
     uint64_t first = store->owners[0];
 
     *address = first == 0 ? address_within(random, capacity) : first - 1;
@@ -485,14 +488,14 @@ static uint64_t unmap_address(struct random *random, const struct store *store)
     if (owner != 0 && random_percent(random, 60))
         return owner - 1;
     if (random_percent(random, 92))
-        return address_within(random, store->state[RIDGE_WORD_CAPACITY]);
+        return address_within(random, store->unit.capacity);
     return generate_address(random, store);
 }
 
 static void put_descriptors(struct random *random, const struct store *store,
                             struct request *request, size_t descriptors)
 {
-    uint64_t capacity = store->state[RIDGE_WORD_CAPACITY];
+    uint64_t capacity = store->unit.capacity;
 
     for (size_t index = 0; index < descriptors; index++) {
         uint8_t *bytes = request->data_out + 8 + 16 * index;
@@ -534,15 +537,16 @@ static void make_unmap(struct random *random, const struct store *store,
 static void make_reserve_in(struct random *random, const struct store *store,
                             struct request *request)
 {
+    const struct ridge_rights *rights = &store->unit.rights;
     uint64_t available = 8;
     uint64_t allocation;
 
     for (size_t place = 0; place < RIDGE_PLACES; place++)
-        available += store->state[RIDGE_WORD_KEY + place] != 0 ? 8 : 0;
+        available += rights->places[place].key != 0 ? 8 : 0;
     start_cdb(random, request, 0x5E, 10);
     request->cdb[1] &= random_percent(random, 5) ? 0xFF : 0xE1;
     if ((request->cdb[1] & 1) != 0)
-        available = store->state[RIDGE_WORD_TYPE] != 0 ? 24 : 8;
+        available = rights->type != 0 ? 24 : 8;
     allocation = RANDOM_CHOICE(random, 0, 1, 7, 8, 9, 16, 23, 24, 25, 72,
                                available - 1, available, available + 1, 255,
                                256, 0xFFFF);
@@ -552,28 +556,38 @@ static void make_reserve_in(struct random *random, const struct store *store,
 }
 
 /* A reservation type, often the one that stands, seldom none of the six. */
-static uint8_t generate_type(struct random *random, const uint64_t *state)
+static uint8_t generate_type(struct random *random,
+                             const struct ridge_rights *rights)
 {
-    if (random_percent(random, 40) && state[RIDGE_WORD_TYPE] != 0)
-        return (uint8_t)state[RIDGE_WORD_TYPE];
+    if (random_percent(random, 40) && rights->type != 0)
+        return (uint8_t)rights->type;
     if (random_percent(random, 94))
         return (uint8_t)RANDOM_CHOICE(random, 1, 3, 5, 6, 7, 8);
     return (uint8_t)random_below(random, 256);
 }
 
+/* What a library that looks one place too far would take for a key: generation
+   and type lie there. */
+static uint64_t key_behind_places(const struct ridge_rights *rights)
+{
+    return (uint64_t)rights->type << 32 | rights->generation;
+}
+
 /* A service action key: one that somebody has, a new one, or 0. */
 static uint64_t generate_action_key(struct random *random,
-                                    const uint64_t *state)
+                                    const struct ridge_rights *rights)
 {
-    size_t place = used_place(random, state);
+    size_t place = generate_place(random, rights, true);
 
     if (random_percent(random, 12))
         return 0;
+    if (random_percent(random, 4))
+        return key_behind_places(rights);
     if (place == RIDGE_PLACES || random_percent(random, 40))
         return generate_key(random);
-    if (state[RIDGE_WORD_TYPE] != 0 && random_percent(random, 40))
-        return key_of(state, state[RIDGE_WORD_HOLDER]);
-    return state[RIDGE_WORD_KEY + place];
+    if (rights->type != 0 && random_percent(random, 40))
+        return key_of(rights, rights->holder);
+    return rights->places[place].key;
 }
 
 static void make_reserve_out(struct random *random, const struct store *store,
@@ -581,7 +595,8 @@ static void make_reserve_out(struct random *random, const struct store *store,
 {
     uint64_t action = RANDOM_CHOICE(random, 0, 0, 0, 0, 1, 1, 1, 2, 2, 2, 4, 4,
                                     4, 6, 6, 6, 3, 5);
-    uint64_t key = key_of(store->state, request->nexus);
+    const struct ridge_rights *rights = &store->unit.rights;
+    uint64_t key = key_of(rights, request->nexus);
 
     start_cdb(random, request, 0x5F, 10);
     if (action == 5)
@@ -589,7 +604,7 @@ static void make_reserve_out(struct random *random, const struct store *store,
     if (action == 3 && random_percent(random, 50))
         action = 0;
     request->cdb[1] = (uint8_t)((request->cdb[1] & 0xE0) | action);
-    request->cdb[2] = generate_type(random, store->state);
+    request->cdb[2] = generate_type(random, rights);
     put(request->cdb + 5, 4, random_percent(random, 96)
                                  ? 24
                                  : RANDOM_CHOICE(random, 0, 1, 23, 25, 32, 256,
@@ -597,9 +612,8 @@ static void make_reserve_out(struct random *random, const struct store *store,
                                                  UINT32_MAX));
     random_fill(random, request->data_out, 40);
     put(request->data_out, 8,
-        random_percent(random, 90) ? key : generate_action_key(random,
-                                                               store->state));
-    put(request->data_out + 8, 8, generate_action_key(random, store->state));
+        random_percent(random, 90) ? key : generate_action_key(random, rights));
+    put(request->data_out + 8, 8, generate_action_key(random, rights));
     if (!random_percent(random, 5))
         request->data_out[20] &= 0xF2;
     request->data_out_bytes = generate_size(random, 24);
@@ -709,18 +723,17 @@ void generate_reserve_out(struct random *random, const struct store *store,
 void generate_rare(struct random *random, const struct store *store,
                    struct request *request)
 {
-    uint64_t type = store->state[RIDGE_WORD_TYPE];
-    bool release = type != 0 && random_percent(random, 50);
+    const struct ridge_rights *rights = &store->unit.rights;
+    bool release = rights->type != 0 && random_percent(random, 50);
     uint64_t nexus = random_below(random, RIDGE_NEXUS_LAST + 1);
 
-    if (release && type >= 7)
-        nexus = store->state[RIDGE_WORD_NEXUS +
-                             used_place(random, store->state)];
+    if (release && rights->type >= 7)
+        nexus = rights->places[generate_place(random, rights, true)].nexus;
     else if (release)
-        nexus = store->state[RIDGE_WORD_HOLDER];
+        nexus = rights->holder;
     generate_reserve_out(random, store, nexus, request);
     request->cdb[1] = (uint8_t)(release ? 2 : RANDOM_CHOICE(random, 0, 6));
     put(request->data_out, 8, random_percent(random, 85)
-                                  ? key_of(store->state, nexus)
+                                  ? key_of(rights, nexus)
                                   : generate_key(random));
 }

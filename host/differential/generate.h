@@ -32,7 +32,7 @@ struct random {
 
 /* A store as ridge.h describes it, with room for the largest. */
 struct store {
-    uint64_t state[RIDGE_STATE_WORDS];
+    struct ridge_unit unit;
     uint64_t owners[RIDGE_SLOTS];
     size_t slots;
     uint8_t medium[RIDGE_SLOTS * RIDGE_BLOCK_BYTES];
@@ -78,18 +78,19 @@ uint64_t generate_capacity(struct random *random, size_t slots);
    over the slots, or most slots of a large store filled in order. */
 void generate_map(struct random *random, struct store *store);
 
-/* Gives the state random registrations, and no reservation. */
-void generate_registrations(struct random *random, uint64_t *state);
+/* Makes random registrations, and no reservation. */
+void generate_registrations(struct random *random, struct ridge_rights *rights);
 
 /* Puts a reservation of that type, if anybody is registered to hold it. */
-void generate_reservation(struct random *random, uint64_t *state,
-                          uint64_t type);
+void generate_reservation(struct random *random, struct ridge_rights *rights,
+                          uint32_t type);
 
 /* A random valid store. */
 void generate_store(struct random *random, struct store *store);
 
 /* A nexus number, mostly one that is registered; sometimes above 15. */
-uint64_t generate_nexus(struct random *random, const uint64_t *state);
+uint64_t generate_nexus(struct random *random,
+                        const struct ridge_rights *rights);
 
 /* A call of any command by that nexus, mostly sensible on that store. */
 void generate_request(struct random *random, const struct store *store,
@@ -104,6 +105,10 @@ void generate_rare(struct random *random, const struct store *store,
                    struct request *request);
 
 /* The key of a nexus, 0 if it is not registered. */
-uint64_t key_of(const uint64_t *state, uint64_t nexus);
+uint64_t key_of(const struct ridge_rights *rights, uint64_t nexus);
+
+/* A place that is used, or is not; RIDGE_PLACES if there is none. */
+size_t generate_place(struct random *random, const struct ridge_rights *rights,
+                      bool used);
 
 #endif

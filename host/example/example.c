@@ -6,7 +6,8 @@
 
 #include "ridge.h"
 
-static uint64_t state[RIDGE_STATE_WORDS], owners[2];
+static struct ridge_unit unit;
+static uint64_t owners[2];
 static uint8_t medium[2 * RIDGE_BLOCK_BYTES];
 static uint8_t block[RIDGE_BLOCK_BYTES], data_in[RIDGE_BLOCK_BYTES];
 static uint8_t sense[RIDGE_SENSE_BYTES];
@@ -17,16 +18,15 @@ static void send(const char *name, uint8_t code, uint8_t address)
     const uint8_t cdb[10] = {code, [5] = address, [8] = 1};
     uint64_t returned;
     uint64_t answer = ridge_execute(
-        state, RIDGE_STATE_WORDS, owners, 2, medium, sizeof medium, 0, cdb,
-        sizeof cdb, block, sizeof block, data_in, sizeof data_in, sense,
-        sizeof sense, &returned);
+        &unit, owners, 2, medium, sizeof medium, 0, cdb, sizeof cdb, block,
+        sizeof block, data_in, sizeof data_in, sense, sizeof sense, &returned);
     printf("%s block %d: answer %d, %d bytes returned\n", name, address,
            (int)answer, (int)returned);
 }
 
 int main(void)
 {
-    uint64_t made = ridge_fresh(8, state, RIDGE_STATE_WORDS, owners, 2);
+    uint64_t made = ridge_fresh(8, &unit, owners, 2);
     printf("fresh store of 8 blocks and 2 slots: answer %d\n", (int)made);
     memcpy(block, "snow load 1.7 kN/m2", 20);
     send("WRITE", 0x2A, 7);

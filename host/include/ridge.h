@@ -1,20 +1,20 @@
 /*
- * ridge.h - the C interface of the proved library libridge.a, version 1.0.0
+ * ridge.h - the C interface of the proved library libridge.a, version 2.0.0
  *
  * One thinly provisioned direct access logical unit: blocks of 512 bytes,
  * unmapped blocks read as zeros. The caller lends all memory; the library
  * allocates nothing, keeps nothing between calls and has no global state.
  *
  * A STORE is three things the caller keeps:
- *   state    20 words of 64 bits, laid out below
+ *   unit     the unit's record, struct ridge_unit below
  *   owners   one word of 64 bits per slot: 0 is free, otherwise the block
  *            address plus 1 of the block that lies in the slot
  *   medium   512 bytes per slot, slot 0 first
  *
- * LENT BUFFERS. All buffers of one call are disjoint: no two of state, owners,
+ * LENT BUFFERS. All buffers of one call are disjoint: no two of *unit, owners,
  * medium, cdb, data_out, data_in, sense and *returned share a byte. None is
  * kept after the call returns. No pointer is null, not even that of a buffer
- * of 0 bytes. Words are aligned as uint64_t is.
+ * of 0 bytes. unit, owners and returned are aligned to 8 bytes.
  *
  * THREADS. Every call is complete in itself. Calls on different stores may run
  * on different threads at once; one store is one thread's at a time.
@@ -53,22 +53,25 @@ extern "C" {
 #endif
 
 /*
- * The interface number is that of the two functions, the state's words, the
- * bounds and the answer numbers below. It rises when a caller, or a state kept
- * by one, that was right under the old number may be wrong under the new one:
- * another parameter, another word or another meaning of one. Who keeps states
- * keeps this number with them.
+ * The interface number is that of the two functions, the record's fields and
+ * where they lie, the bounds and the answer numbers below. It rises when a
+ * caller, or a record kept by one, that was right under the old number may be
+ * wrong under the new one: another parameter, another field, another width,
+ * place or meaning of one. Who keeps records keeps this number with them.
+ *
+ * From 1 to 2 the record took the place of twenty numbered words. No answer
+ * changed; CHANGELOG.md says which word became which field.
  *
  * Of the version, the first number rises with the interface, the second when
  * commands or answers are added that leave old callers right, the third when
  * neither changes. CHANGELOG.md says what each version brought. The revision
  * 0100 that INQUIRY returns is the product's, and none of these.
  */
-#define RIDGE_INTERFACE 1
-#define RIDGE_VERSION_MAJOR 1
+#define RIDGE_INTERFACE 2
+#define RIDGE_VERSION_MAJOR 2
 #define RIDGE_VERSION_MINOR 0
 #define RIDGE_VERSION_PATCH 0
-#define RIDGE_VERSION "1.0.0"
+#define RIDGE_VERSION "2.0.0"
 
 enum ridge_bound {
     RIDGE_BLOCK_BYTES = 512,    /* bytes of one block, and of one slot */
@@ -77,30 +80,84 @@ enum ridge_bound {
     RIDGE_DESCRIPTORS = 16,     /* most UNMAP descriptors considered */
     RIDGE_PLACES = 8,           /* registration places */
     RIDGE_NEXUS_LAST = 15,      /* nexus numbers are 0 to 15 */
-    RIDGE_SENSE_BYTES = 18,     /* least size of a sense buffer */
-    RIDGE_STATE_WORDS = 20      /* words of a state, exactly */
+    RIDGE_SENSE_BYTES = 18      /* least size of a sense buffer */
 };
 
 /* Capacity is 1 to this many blocks. */
 #define RIDGE_CAPACITY_LAST (UINT64_C(1) << 40)
 
 /*
- * The words of a state. A word too large for its field makes the state
- * invalid: generation above 2^32 - 1; type, holder or a nexus above 255. The
- * rest of a valid state is: no owner above the capacity, no two slots of one
- * block; a place is used exactly if its key is not 0, used places have
- * different nexuses up to 15, unused ones nexus 0; the type is 0 (none, holder
- * 0) or 1, 3, 5, 6 (holder is a registered nexus) or 7, 8 (holder 0, somebody
- * is registered).
+ * The record of a unit, 152 bytes. Each of them belongs to a field: there is no
+ * padding, so that any bytes are a record and each is determined after a call.
+ * A field counts in its whole width: a nexus of 2^32 is not nexus 0, a type of
+ * 257 is not type 1.
+ *
+ * A valid state is: the capacity 1 to 2^40; no owner above the capacity, no two
+ * slots of one block; a place is used exactly if its key is not 0, used places
+ * have different nexuses up to 15, unused ones nexus 0; the type is 0 (none,
+ * holder 0) or 1, 3, 5, 6 (holder is a registered nexus) or 7, 8 (holder 0,
+ * somebody is registered). Every generation is valid. In any other state
+ * ridge_execute answers 11.
+ *
+ * Numbers are in the machine's byte order. A file wants an order of its own:
+ * the project's host/serve/store.c has one.
  */
-enum ridge_word {
-    RIDGE_WORD_CAPACITY = 0,    /* blocks */
-    RIDGE_WORD_GENERATION = 1,  /* 32 bits, 0 follows FFFF_FFFFh */
-    RIDGE_WORD_TYPE = 2,        /* reservation type, 0 for none */
-    RIDGE_WORD_HOLDER = 3,      /* nexus number; 0 where no one nexus holds */
-    RIDGE_WORD_NEXUS = 4,       /* words 4 to 11: the places' nexus numbers */
-    RIDGE_WORD_KEY = 12         /* words 12 to 19: the places' keys */
+struct ridge_place {
+    uint64_t nexus;             /* nexus number, 0 in an unused place */
+    uint64_t key;               /* its key, 0 in an unused place */
 };
+
+struct ridge_rights {
+    struct ridge_place places[RIDGE_PLACES]; /* registrations */
+    uint64_t holder;            /* nexus number; 0 where no one nexus holds */
+    uint32_t generation;        /* 0 follows FFFF_FFFFh */
+    uint32_t type;              /* reservation type, 0 for none */
+};
+
+struct ridge_unit {
+    uint64_t capacity;          /* blocks */
+    struct ridge_rights rights; /* registrations and reservation */
+};
+
+/*
+ * Where each field lies, and how many bytes it has. A compiler that would lay
+ * the record out otherwise (an option may make it pack or pad) is refused here;
+ * C and C++ from before 2011 cannot say this and take it on trust.
+ */
+#if defined __cplusplus && __cplusplus >= 201103L
+#define RIDGE_HOLDS(fact) static_assert(fact, "ridge.h: not so: " #fact)
+#define RIDGE_ALIGNMENT(type) alignof(type)
+#elif !defined __cplusplus && defined __STDC_VERSION__
+#if __STDC_VERSION__ >= 201112L
+#define RIDGE_HOLDS(fact) _Static_assert(fact, "ridge.h: not so: " #fact)
+#define RIDGE_ALIGNMENT(type) _Alignof(type)
+#endif
+#endif
+
+#ifdef RIDGE_HOLDS
+#define RIDGE_FIELD(record, field, at, bytes)           \
+    RIDGE_HOLDS(offsetof(struct record, field) == at && \
+                sizeof(((struct record *)0)->field) == bytes)
+
+RIDGE_FIELD(ridge_place, nexus, 0, 8);
+RIDGE_FIELD(ridge_place, key, 8, 8);
+RIDGE_HOLDS(sizeof(struct ridge_place) == 16);
+
+RIDGE_FIELD(ridge_rights, places, 0, 128);
+RIDGE_FIELD(ridge_rights, holder, 128, 8);
+RIDGE_FIELD(ridge_rights, generation, 136, 4);
+RIDGE_FIELD(ridge_rights, type, 140, 4);
+RIDGE_HOLDS(sizeof(struct ridge_rights) == 144);
+
+RIDGE_FIELD(ridge_unit, capacity, 0, 8);
+RIDGE_FIELD(ridge_unit, rights, 8, 144);
+RIDGE_HOLDS(sizeof(struct ridge_unit) == 152);
+RIDGE_HOLDS(RIDGE_ALIGNMENT(struct ridge_unit) == 8);
+
+#undef RIDGE_FIELD
+#undef RIDGE_HOLDS
+#undef RIDGE_ALIGNMENT
+#endif
 
 enum ridge_answer {
     RIDGE_GOOD = 0,
@@ -122,21 +179,20 @@ enum ridge_answer {
  * 0. It never sees the medium, whose bytes stay as they are (no block is
  * mapped, so none of them can be read).
  *
- *   capacity      blocks, 1 to 2^40
- *   state         written: the fresh state
- *   state_words   words of state, must be 20
- *   owners        written: all 0
- *   slots         words of owners, 1 to 128
+ *   capacity   blocks, 1 to 2^40
+ *   unit       written: the fresh record, whatever was there
+ *   owners     written: all 0
+ *   slots      words of owners, 1 to 128
  *
  * Answers 0, or 11 for bad bounds; then nothing is changed.
  */
-uint64_t ridge_fresh(uint64_t capacity, uint64_t *state, size_t state_words,
+uint64_t ridge_fresh(uint64_t capacity, struct ridge_unit *unit,
                      uint64_t *owners, size_t slots);
 
 /*
  * Executes one command on a store.
  *
- *   state, state_words      the state; another number of words than 20 is 11
+ *   unit                    the unit's record
  *   owners, slots           the map, 1 to 128 slots
  *   medium, medium_bytes    the blocks, exactly 512 x slots bytes
  *   nexus                   who sends the command; above 15 is 11
@@ -152,9 +208,9 @@ uint64_t ridge_fresh(uint64_t capacity, uint64_t *state, size_t state_words,
  *
  * Returns the answer number. Status and sense follow from it by the table.
  */
-uint64_t ridge_execute(uint64_t *state, size_t state_words, uint64_t *owners,
-                       size_t slots, uint8_t *medium, size_t medium_bytes,
-                       uint64_t nexus, const uint8_t *cdb, size_t cdb_bytes,
+uint64_t ridge_execute(struct ridge_unit *unit, uint64_t *owners, size_t slots,
+                       uint8_t *medium, size_t medium_bytes, uint64_t nexus,
+                       const uint8_t *cdb, size_t cdb_bytes,
                        const uint8_t *data_out, size_t data_out_bytes,
                        uint8_t *data_in, size_t data_in_bytes, uint8_t *sense,
                        size_t sense_bytes, uint64_t *returned);

@@ -12,11 +12,9 @@
 #include <stdbool.h>
 #include <string.h>
 
-#include "../include/ridge.h"
-
 enum { NO_PLACE = RIDGE_PLACES, NO_SLOT = RIDGE_SLOTS };
 
-/* Reservation types; RESERVATION_NONE stands in the type word for no one. */
+/* Reservation types; RESERVATION_NONE stands in the type field for no one. */
 enum {
     RESERVATION_NONE = 0,
     WRITE_EXCLUSIVE = 1,
@@ -29,7 +27,7 @@ enum {
 
 /* One call: what was lent, once the bounds are known to hold. */
 struct call {
-    uint64_t *state;
+    struct ridge_unit *unit;
     uint64_t *owners;
     size_t slots;
     uint8_t *medium;
@@ -68,7 +66,7 @@ static uint64_t smaller(uint64_t left, uint64_t right)
 
 /* ---- Validity of a state ---- */
 
-static bool is_type(uint64_t type)
+static bool is_type(uint32_t type)
 {
     switch (type) {
     case WRITE_EXCLUSIVE:
@@ -84,45 +82,45 @@ static bool is_type(uint64_t type)
 }
 
 /* Under these types every registered nexus is a holder. */
-static bool is_for_all(uint64_t type)
+static bool is_for_all(uint32_t type)
 {
     return type == WRITE_EXCLUSIVE_ALL || type == EXCLUSIVE_ACCESS_ALL;
 }
 
-static bool is_for_registrants(uint64_t type)
+static bool is_for_registrants(uint32_t type)
 {
     return type == WRITE_EXCLUSIVE_REGISTRANTS ||
            type == EXCLUSIVE_ACCESS_REGISTRANTS;
 }
 
-static bool is_exclusive_access(uint64_t type)
+static bool is_exclusive_access(uint32_t type)
 {
     return type == EXCLUSIVE_ACCESS || type == EXCLUSIVE_ACCESS_REGISTRANTS ||
            type == EXCLUSIVE_ACCESS_ALL;
 }
 
 /* The place of a registered nexus, or NO_PLACE. */
-static size_t place_of(const uint64_t *state, uint64_t nexus)
+static size_t place_of(const struct ridge_rights *rights, uint64_t nexus)
 {
     for (size_t place = 0; place < RIDGE_PLACES; place++) {
-        if (state[RIDGE_WORD_KEY + place] != 0 &&
-            state[RIDGE_WORD_NEXUS + place] == nexus)
+        if (rights->places[place].key != 0 &&
+            rights->places[place].nexus == nexus)
             return place;
     }
     return NO_PLACE;
 }
 
-static bool is_registered(const uint64_t *state, uint64_t nexus)
+static bool is_registered(const struct ridge_rights *rights, uint64_t nexus)
 {
-    return place_of(state, nexus) != NO_PLACE;
+    return place_of(rights, nexus) != NO_PLACE;
 }
 
-static size_t registrations(const uint64_t *state)
+static size_t registrations(const struct ridge_rights *rights)
 {
     size_t count = 0;
 
     for (size_t place = 0; place < RIDGE_PLACES; place++) {
-        if (state[RIDGE_WORD_KEY + place] != 0)
+        if (rights->places[place].key != 0)
             count++;
     }
     return count;
@@ -141,72 +139,70 @@ static bool valid_map(const uint64_t *owners, size_t slots, uint64_t capacity)
     return true;
 }
 
-static bool valid_places(const uint64_t *state)
+static bool valid_places(const struct ridge_rights *rights)
 {
     for (size_t place = 0; place < RIDGE_PLACES; place++) {
-        uint64_t nexus = state[RIDGE_WORD_NEXUS + place];
+        uint64_t nexus = rights->places[place].nexus;
 
-        if (state[RIDGE_WORD_KEY + place] == 0) {
+        if (rights->places[place].key == 0) {
             if (nexus != 0)
                 return false;
         } else if (nexus > RIDGE_NEXUS_LAST ||
-                   place_of(state, nexus) != place) {
+                   place_of(rights, nexus) != place) {
             return false;
         }
     }
     return true;
 }
 
-static bool valid_reservation(const uint64_t *state)
+static bool valid_reservation(const struct ridge_rights *rights)
 {
-    uint64_t type = state[RIDGE_WORD_TYPE];
-    uint64_t holder = state[RIDGE_WORD_HOLDER];
+    uint32_t type = rights->type;
+    uint64_t holder = rights->holder;
 
     if (type == RESERVATION_NONE)
         return holder == 0;
     if (!is_type(type))
         return false;
     if (is_for_all(type))
-        return holder == 0 && registrations(state) > 0;
-    return is_registered(state, holder);
+        return holder == 0 && registrations(rights) > 0;
+    return is_registered(rights, holder);
 }
 
-static bool valid_bounds(uint64_t capacity, size_t state_words, size_t slots)
+static bool valid_bounds(uint64_t capacity, size_t slots)
 {
-    return state_words == RIDGE_STATE_WORDS && capacity >= 1 &&
-           capacity <= RIDGE_CAPACITY_LAST && slots >= 1 &&
+    return capacity >= 1 && capacity <= RIDGE_CAPACITY_LAST && slots >= 1 &&
            slots <= RIDGE_SLOTS;
 }
 
 static bool valid_state(const struct call *call)
 {
-    return call->state[RIDGE_WORD_GENERATION] <= UINT32_MAX &&
-           valid_places(call->state) && valid_reservation(call->state) &&
-           valid_map(call->owners, call->slots,
-                     call->state[RIDGE_WORD_CAPACITY]);
+    return valid_places(&call->unit->rights) &&
+           valid_reservation(&call->unit->rights) &&
+           valid_map(call->owners, call->slots, call->unit->capacity);
 }
 
 /* ---- Who conflicts ---- */
 
 static bool is_holder(const struct call *call)
 {
-    uint64_t type = call->state[RIDGE_WORD_TYPE];
+    const struct ridge_rights *rights = &call->unit->rights;
 
-    if (type == RESERVATION_NONE)
+    if (rights->type == RESERVATION_NONE)
         return false;
-    if (is_for_all(type))
-        return is_registered(call->state, call->nexus);
-    return call->state[RIDGE_WORD_HOLDER] == call->nexus;
+    if (is_for_all(rights->type))
+        return is_registered(rights, call->nexus);
+    return rights->holder == call->nexus;
 }
 
 static bool is_blocked(const struct call *call)
 {
-    uint64_t type = call->state[RIDGE_WORD_TYPE];
+    const struct ridge_rights *rights = &call->unit->rights;
 
-    if (type == RESERVATION_NONE || is_holder(call))
+    if (rights->type == RESERVATION_NONE || is_holder(call))
         return false;
-    return !(is_for_registrants(type) &&
-             is_registered(call->state, call->nexus));
+    return !(is_for_registrants(rights->type) &&
+             is_registered(rights, call->nexus));
 }
 
 static bool write_conflicts(const struct call *call)
@@ -216,8 +212,7 @@ static bool write_conflicts(const struct call *call)
 
 static bool read_conflicts(const struct call *call)
 {
-    return is_blocked(call) &&
-           is_exclusive_access(call->state[RIDGE_WORD_TYPE]);
+    return is_blocked(call) && is_exclusive_access(call->unit->rights.type);
 }
 
 /* ---- Blocks ---- */
@@ -230,7 +225,7 @@ struct range {
 /* The sum is not formed: near 2^64 it would wrap to a small one. */
 static bool range_fits(const struct call *call, struct range range)
 {
-    uint64_t capacity = call->state[RIDGE_WORD_CAPACITY];
+    uint64_t capacity = call->unit->capacity;
 
     return range.address <= capacity &&
            range.count <= capacity - range.address;
@@ -462,7 +457,7 @@ static uint64_t inquiry(struct call *call)
 static uint64_t read_capacity_10(struct call *call)
 {
     uint8_t data[8];
-    uint64_t last = call->state[RIDGE_WORD_CAPACITY] - 1;
+    uint64_t last = call->unit->capacity - 1;
 
     store(data, 4, smaller(last, UINT32_MAX));
     store(data + 4, 4, RIDGE_BLOCK_BYTES);
@@ -475,7 +470,7 @@ static uint64_t read_capacity_16(struct call *call)
 
     if ((call->cdb[1] & 0x1F) != 0x10)
         return RIDGE_CDB_FIELD;
-    store(data, 8, call->state[RIDGE_WORD_CAPACITY] - 1);
+    store(data, 8, call->unit->capacity - 1);
     store(data + 8, 4, RIDGE_BLOCK_BYTES);
     data[14] = 0xC0;
     return give(call, data, sizeof data, load(call->cdb + 10, 4));
@@ -483,52 +478,53 @@ static uint64_t read_capacity_16(struct call *call)
 
 /* ---- PERSISTENT RESERVE IN ---- */
 
-static size_t key_list(const uint64_t *state,
+static size_t key_list(const struct ridge_rights *rights,
                        uint8_t data[8 + 8 * RIDGE_PLACES])
 {
     size_t length = 0;
 
     for (size_t place = 0; place < RIDGE_PLACES; place++) {
-        if (state[RIDGE_WORD_KEY + place] != 0) {
-            store(data + 8 + length, 8, state[RIDGE_WORD_KEY + place]);
+        if (rights->places[place].key != 0) {
+            store(data + 8 + length, 8, rights->places[place].key);
             length += 8;
         }
     }
-    store(data, 4, state[RIDGE_WORD_GENERATION]);
+    store(data, 4, rights->generation);
     store(data + 4, 4, length);
     return 8 + length;
 }
 
-static uint64_t holder_key(const uint64_t *state)
+static uint64_t holder_key(const struct ridge_rights *rights)
 {
-    if (is_for_all(state[RIDGE_WORD_TYPE]))
+    if (is_for_all(rights->type))
         return 0;
-    return state[RIDGE_WORD_KEY + place_of(state, state[RIDGE_WORD_HOLDER])];
+    return rights->places[place_of(rights, rights->holder)].key;
 }
 
-static size_t reservation_list(const uint64_t *state, uint8_t data[24])
+static size_t reservation_list(const struct ridge_rights *rights,
+                               uint8_t data[24])
 {
     memset(data, 0, 24);
-    store(data, 4, state[RIDGE_WORD_GENERATION]);
-    if (state[RIDGE_WORD_TYPE] == RESERVATION_NONE)
+    store(data, 4, rights->generation);
+    if (rights->type == RESERVATION_NONE)
         return 8;
     store(data + 4, 4, 16);
-    store(data + 8, 8, holder_key(state));
-    data[21] = (uint8_t)state[RIDGE_WORD_TYPE];
+    store(data + 8, 8, holder_key(rights));
+    data[21] = (uint8_t)rights->type;
     return 24;
 }
 
 static uint64_t reserve_in(struct call *call)
 {
+    const struct ridge_rights *rights = &call->unit->rights;
     uint8_t data[8 + 8 * RIDGE_PLACES];
     uint64_t allocation = load(call->cdb + 7, 2);
 
     switch (call->cdb[1] & 0x1F) {
     case 0:
-        return give(call, data, key_list(call->state, data), allocation);
+        return give(call, data, key_list(rights, data), allocation);
     case 1:
-        return give(call, data, reservation_list(call->state, data),
-                    allocation);
+        return give(call, data, reservation_list(rights, data), allocation);
     default:
         return RIDGE_CDB_FIELD;
     }
@@ -538,7 +534,7 @@ static uint64_t reserve_in(struct call *call)
 
 /* What a service action works on; the sender's place may be NO_PLACE. */
 struct order {
-    uint64_t type;
+    uint32_t type;
     uint64_t key;
     uint64_t action_key;
     size_t place;
@@ -553,81 +549,86 @@ enum action {
     REGISTER_AND_IGNORE = 6
 };
 
-static void raise_generation(struct call *call)
+/* Of 32 bits: 0 follows FFFF_FFFFh. */
+static void raise_generation(struct ridge_rights *rights)
 {
-    call->state[RIDGE_WORD_GENERATION] =
-        (uint32_t)(call->state[RIDGE_WORD_GENERATION] + 1);
+    rights->generation++;
 }
 
-static void end_reservation(struct call *call)
+static void end_reservation(struct ridge_rights *rights)
 {
-    call->state[RIDGE_WORD_TYPE] = RESERVATION_NONE;
-    call->state[RIDGE_WORD_HOLDER] = 0;
+    rights->type = RESERVATION_NONE;
+    rights->holder = 0;
 }
 
-static void make_reservation(struct call *call, uint64_t type)
+static void make_reservation(struct call *call, uint32_t type)
 {
-    call->state[RIDGE_WORD_TYPE] = type;
-    call->state[RIDGE_WORD_HOLDER] = is_for_all(type) ? 0 : call->nexus;
+    call->unit->rights.type = type;
+    call->unit->rights.holder = is_for_all(type) ? 0 : call->nexus;
 }
 
-static void empty_place(struct call *call, size_t place)
+static void empty_place(struct ridge_rights *rights, size_t place)
 {
-    call->state[RIDGE_WORD_NEXUS + place] = 0;
-    call->state[RIDGE_WORD_KEY + place] = 0;
+    rights->places[place].nexus = 0;
+    rights->places[place].key = 0;
 }
 
 /* Ends the reservation if its holder, or the last of all holders, is gone. */
-static void end_if_unheld(struct call *call)
+static void end_if_unheld(struct ridge_rights *rights)
 {
-    if (!valid_reservation(call->state))
-        end_reservation(call);
+    if (!valid_reservation(rights))
+        end_reservation(rights);
 }
 
-static size_t lowest_free_place(const uint64_t *state)
+static size_t lowest_free_place(const struct ridge_rights *rights)
 {
     size_t place = 0;
 
-    while (place < RIDGE_PLACES && state[RIDGE_WORD_KEY + place] != 0)
+    while (place < RIDGE_PLACES && rights->places[place].key != 0)
         place++;
     return place;
 }
 
 static uint64_t register_new(struct call *call, uint64_t key)
 {
-    size_t place = lowest_free_place(call->state);
+    struct ridge_rights *rights = &call->unit->rights;
+    size_t place = lowest_free_place(rights);
 
     if (key == 0)
         return RIDGE_GOOD;
     if (place == NO_PLACE)
         return RIDGE_PLACES_USED;
-    call->state[RIDGE_WORD_NEXUS + place] = call->nexus;
-    call->state[RIDGE_WORD_KEY + place] = key;
-    raise_generation(call);
+    rights->places[place].nexus = call->nexus;
+    rights->places[place].key = key;
+    raise_generation(rights);
     return RIDGE_GOOD;
 }
 
 static uint64_t register_key(struct call *call, const struct order *order)
 {
+    struct ridge_rights *rights = &call->unit->rights;
+
     if (order->place == NO_PLACE)
         return register_new(call, order->action_key);
     if (order->action_key != 0) {
-        call->state[RIDGE_WORD_KEY + order->place] = order->action_key;
+        rights->places[order->place].key = order->action_key;
     } else {
-        empty_place(call, order->place);
-        end_if_unheld(call);
+        empty_place(rights, order->place);
+        end_if_unheld(rights);
     }
-    raise_generation(call);
+    raise_generation(rights);
     return RIDGE_GOOD;
 }
 
 static uint64_t reserve(struct call *call, const struct order *order)
 {
-    if (call->state[RIDGE_WORD_TYPE] == RESERVATION_NONE) {
+    uint32_t held = call->unit->rights.type;
+
+    if (held == RESERVATION_NONE) {
         make_reservation(call, order->type);
         return RIDGE_GOOD;
     }
-    if (is_holder(call) && call->state[RIDGE_WORD_TYPE] == order->type)
+    if (is_holder(call) && held == order->type)
         return RIDGE_GOOD;
     return RIDGE_CONFLICT;
 }
@@ -636,56 +637,60 @@ static uint64_t release(struct call *call, const struct order *order)
 {
     if (!is_holder(call))
         return RIDGE_GOOD;
-    if (call->state[RIDGE_WORD_TYPE] != order->type)
+    if (call->unit->rights.type != order->type)
         return RIDGE_RELEASE_TYPE;
-    end_reservation(call);
+    end_reservation(&call->unit->rights);
     return RIDGE_GOOD;
 }
 
 static uint64_t clear(struct call *call)
 {
+    struct ridge_rights *rights = &call->unit->rights;
+
     for (size_t place = 0; place < RIDGE_PLACES; place++)
-        empty_place(call, place);
-    end_reservation(call);
-    raise_generation(call);
+        empty_place(rights, place);
+    end_reservation(rights);
+    raise_generation(rights);
     return RIDGE_GOOD;
 }
 
-static bool somebody_has(const uint64_t *state, uint64_t key)
+static bool somebody_has(const struct ridge_rights *rights, uint64_t key)
 {
     for (size_t place = 0; place < RIDGE_PLACES; place++) {
-        if (state[RIDGE_WORD_KEY + place] == key)
+        if (rights->places[place].key == key)
             return true;
     }
     return false;
 }
 
 /* Removes all with the key, save the place spared (NO_PLACE spares none). */
-static void remove_key(struct call *call, uint64_t key, size_t spared)
+static void remove_key(struct ridge_rights *rights, uint64_t key,
+                       size_t spared)
 {
     for (size_t place = 0; place < RIDGE_PLACES; place++) {
-        if (place != spared && call->state[RIDGE_WORD_KEY + place] == key)
-            empty_place(call, place);
+        if (place != spared && rights->places[place].key == key)
+            empty_place(rights, place);
     }
 }
 
 static uint64_t preempt(struct call *call, const struct order *order)
 {
-    uint64_t held = call->state[RIDGE_WORD_TYPE];
+    struct ridge_rights *rights = &call->unit->rights;
+    uint32_t held = rights->type;
 
     if (order->action_key == 0)
         return RIDGE_LIST_FIELD;
-    if (!somebody_has(call->state, order->action_key))
+    if (!somebody_has(rights, order->action_key))
         return RIDGE_CONFLICT;
     if (held != RESERVATION_NONE && !is_for_all(held) &&
-        holder_key(call->state) == order->action_key) {
-        remove_key(call, order->action_key, order->place);
+        holder_key(rights) == order->action_key) {
+        remove_key(rights, order->action_key, order->place);
         make_reservation(call, order->type);
     } else {
-        remove_key(call, order->action_key, NO_PLACE);
-        end_if_unheld(call);
+        remove_key(rights, order->action_key, NO_PLACE);
+        end_if_unheld(rights);
     }
-    raise_generation(call);
+    raise_generation(rights);
     return RIDGE_GOOD;
 }
 
@@ -697,7 +702,7 @@ static bool key_is_right(const struct call *call, const struct order *order,
         return true;
     if (order->place == NO_PLACE)
         return action == REGISTER && order->key == 0;
-    return order->key == call->state[RIDGE_WORD_KEY + order->place];
+    return order->key == call->unit->rights.places[order->place].key;
 }
 
 static uint64_t act(struct call *call, const struct order *order,
@@ -754,7 +759,7 @@ static uint64_t reserve_out(struct call *call)
     order.type = call->cdb[2];
     order.key = load(call->data_out, 8);
     order.action_key = load(call->data_out + 8, 8);
-    order.place = place_of(call->state, call->nexus);
+    order.place = place_of(&call->unit->rights, call->nexus);
     return act(call, &order, action);
 }
 
@@ -823,35 +828,34 @@ static void write_sense(uint8_t *sense, uint64_t answer)
     sense[13] = codes[answer][2];
 }
 
-uint64_t SECOND_NAME(fresh)(uint64_t capacity, uint64_t *state,
-                            size_t state_words, uint64_t *owners,
-                            size_t slots)
+uint64_t SECOND_NAME(fresh)(uint64_t capacity, struct ridge_unit *unit,
+                            uint64_t *owners, size_t slots)
 {
-    if (!valid_bounds(capacity, state_words, slots))
+    if (!valid_bounds(capacity, slots))
         return RIDGE_UNUSABLE;
-    memset(state, 0, RIDGE_STATE_WORDS * sizeof *state);
+    memset(unit, 0, sizeof *unit);
     memset(owners, 0, slots * sizeof *owners);
-    state[RIDGE_WORD_CAPACITY] = capacity;
+    unit->capacity = capacity;
     return RIDGE_GOOD;
 }
 
 uint64_t SECOND_NAME(execute)(
-    uint64_t *state, size_t state_words, uint64_t *owners, size_t slots,
-    uint8_t *medium, size_t medium_bytes, uint64_t nexus, const uint8_t *cdb,
-    size_t cdb_bytes, const uint8_t *data_out, size_t data_out_bytes,
-    uint8_t *data_in, size_t data_in_bytes, uint8_t *sense, size_t sense_bytes,
+    struct ridge_unit *unit, uint64_t *owners, size_t slots, uint8_t *medium,
+    size_t medium_bytes, uint64_t nexus, const uint8_t *cdb, size_t cdb_bytes,
+    const uint8_t *data_out, size_t data_out_bytes, uint8_t *data_in,
+    size_t data_in_bytes, uint8_t *sense, size_t sense_bytes,
     uint64_t *returned)
 {
-    struct call call = {state,    owners,         slots,    medium,
+    struct call call = {unit,     owners,         slots,    medium,
                         nexus,    cdb,            data_out, data_out_bytes,
                         data_in,  data_in_bytes,  returned};
     uint64_t answer;
 
     *returned = 0;
     if (nexus > RIDGE_NEXUS_LAST || cdb_bytes == 0 ||
-        sense_bytes < RIDGE_SENSE_BYTES || state_words != RIDGE_STATE_WORDS)
+        sense_bytes < RIDGE_SENSE_BYTES)
         return RIDGE_UNUSABLE;
-    if (!valid_bounds(state[RIDGE_WORD_CAPACITY], state_words, slots) ||
+    if (!valid_bounds(unit->capacity, slots) ||
         medium_bytes != slots * RIDGE_BLOCK_BYTES || !valid_state(&call))
         return RIDGE_UNUSABLE;
     answer = dispatch(&call, cdb_bytes);

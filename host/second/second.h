@@ -1,14 +1,13 @@
 /*
  * second.h - the second program's interface: that of ridge.h under another
- * prefix, so that one test can hold both libraries. ridge.h says what each
- * parameter and each answer number is.
+ * prefix, so that one test can hold both libraries. ridge.h has the record,
+ * and says what each parameter and each answer number is.
  */
 
 #ifndef SECOND_H
 #define SECOND_H
 
-#include <stddef.h>
-#include <stdint.h>
+#include "../include/ridge.h"
 
 /*
  * Puts the prefix before a function's name. The tests compile further copies
@@ -18,15 +17,14 @@
 #define SECOND_NAME(name) second_##name
 #endif
 
-uint64_t SECOND_NAME(fresh)(uint64_t capacity, uint64_t *state,
-                            size_t state_words, uint64_t *owners,
-                            size_t slots);
+uint64_t SECOND_NAME(fresh)(uint64_t capacity, struct ridge_unit *unit,
+                            uint64_t *owners, size_t slots);
 
 uint64_t SECOND_NAME(execute)(
-    uint64_t *state, size_t state_words, uint64_t *owners, size_t slots,
-    uint8_t *medium, size_t medium_bytes, uint64_t nexus, const uint8_t *cdb,
-    size_t cdb_bytes, const uint8_t *data_out, size_t data_out_bytes,
-    uint8_t *data_in, size_t data_in_bytes, uint8_t *sense, size_t sense_bytes,
+    struct ridge_unit *unit, uint64_t *owners, size_t slots, uint8_t *medium,
+    size_t medium_bytes, uint64_t nexus, const uint8_t *cdb, size_t cdb_bytes,
+    const uint8_t *data_out, size_t data_out_bytes, uint8_t *data_in,
+    size_t data_in_bytes, uint8_t *sense, size_t sense_bytes,
     uint64_t *returned);
 
 #endif

@@ -1,12 +1,14 @@
-/* The store in memory and in bytes (store.h). When the C interface's record
-   gains fields, this file learns them, STORE_LAYOUT rises, and store_unpack
-   keeps reading the layouts before it.
+/* The store in memory and in bytes (store.h). The bytes are the host's own and
+   stay as they are when the C interface lays the same record out otherwise in
+   memory. When the record gains fields, this file learns them, STORE_LAYOUT
+   rises, and store_unpack keeps reading the layouts before it.
 
    Layout 1, numbers most significant byte first:
      0-3    slots
-     4-7    words of the state
-     8-     the state's words, 8 bytes each
-            the owners, 8 bytes a slot
+     4-7    numbers of the record, 20
+     8-167  the record, 8 bytes a number: capacity, generation, type, holder,
+            the nexuses of the 8 places, the keys of the 8 places
+     168-   the owners, 8 bytes a slot
             the medium, 512 bytes a slot */
 #include "store.h"
 
@@ -14,7 +16,21 @@
 
 #include "numbers.h"
 
-enum { HEAD_BYTES = 8, WORD_BYTES = 8 };
+enum { HEAD_BYTES = 8, NUMBER_BYTES = 8 };
+
+/* Where the record's numbers stand among themselves. */
+enum {
+    CAPACITY,
+    GENERATION,
+    TYPE,
+    HOLDER,
+    NEXUSES,
+    KEYS = NEXUSES + RIDGE_PLACES,
+    RECORD_NUMBERS = KEYS + RIDGE_PLACES
+};
+
+_Static_assert(RECORD_NUMBERS * NUMBER_BYTES == STORE_RECORD_BYTES,
+               "another record needs another layout");
 
 int store_fresh(struct store *store, uint64_t capacity, uint64_t slots)
 {
@@ -22,14 +38,14 @@ int store_fresh(struct store *store, uint64_t capacity, uint64_t slots)
     if (slots > RIDGE_SLOTS)
         return 0;
     store->slots = (size_t)slots;
-    return ridge_fresh(capacity, store->state, RIDGE_STATE_WORDS,
-                       store->owners, store->slots) == RIDGE_GOOD;
+    return ridge_fresh(capacity, &store->unit, store->owners, store->slots) ==
+           RIDGE_GOOD;
 }
 
 uint64_t store_execute(struct store *store, struct store_call *call)
 {
-    return ridge_execute(store->state, RIDGE_STATE_WORDS, store->owners,
-                         store->slots, store->medium,
+    return ridge_execute(&store->unit, store->owners, store->slots,
+                         store->medium,
                          store->slots * RIDGE_BLOCK_BYTES, call->nexus,
                          call->cdb, call->cdb_bytes, call->data_out,
                          call->data_out_bytes, call->data_in,
@@ -52,7 +68,7 @@ size_t store_sense_bytes(uint64_t answer)
 
 uint64_t store_capacity(const struct store *store)
 {
-    return store->state[RIDGE_WORD_CAPACITY];
+    return store->unit.capacity;
 }
 
 size_t store_slots(const struct store *store)
@@ -68,10 +84,11 @@ size_t store_slots_used(const struct store *store)
     return used;
 }
 
+/* The record has no padding, so that its bytes are its fields. */
 int store_same(const struct store *one, const struct store *other)
 {
     return one->slots == other->slots &&
-           memcmp(one->state, other->state, sizeof one->state) == 0 &&
+           memcmp(&one->unit, &other->unit, sizeof one->unit) == 0 &&
            memcmp(one->owners, other->owners,
                   one->slots * sizeof one->owners[0]) == 0 &&
            memcmp(one->medium, other->medium,
@@ -80,30 +97,68 @@ int store_same(const struct store *one, const struct store *other)
 
 static size_t packed_bytes(uint64_t slots)
 {
-    return HEAD_BYTES + WORD_BYTES * RIDGE_STATE_WORDS +
-           (WORD_BYTES + RIDGE_BLOCK_BYTES) * (size_t)slots;
+    return HEAD_BYTES + STORE_RECORD_BYTES +
+           (NUMBER_BYTES + RIDGE_BLOCK_BYTES) * (size_t)slots;
 }
 
-static uint8_t *put_words(uint8_t *at, const uint64_t *words, size_t count)
+static uint8_t *put_numbers(uint8_t *at, const uint64_t *numbers, size_t count)
 {
-    for (size_t word = 0; word < count; word++, at += WORD_BYTES)
-        put_number(at, words[word], WORD_BYTES);
+    for (size_t i = 0; i < count; i++, at += NUMBER_BYTES)
+        put_number(at, numbers[i], NUMBER_BYTES);
     return at;
 }
 
-static const uint8_t *take_words(const uint8_t *at, uint64_t *words, size_t count)
+static const uint8_t *take_numbers(const uint8_t *at, uint64_t *numbers,
+                                   size_t count)
 {
-    for (size_t word = 0; word < count; word++, at += WORD_BYTES)
-        words[word] = number_at(at, WORD_BYTES);
+    for (size_t i = 0; i < count; i++, at += NUMBER_BYTES)
+        numbers[i] = number_at(at, NUMBER_BYTES);
     return at;
+}
+
+static uint8_t *put_record(uint8_t *at, const struct ridge_unit *unit)
+{
+    const struct ridge_rights *rights = &unit->rights;
+    uint64_t numbers[RECORD_NUMBERS];
+    numbers[CAPACITY] = unit->capacity;
+    numbers[GENERATION] = rights->generation;
+    numbers[TYPE] = rights->type;
+    numbers[HOLDER] = rights->holder;
+    for (size_t place = 0; place < RIDGE_PLACES; place++) {
+        numbers[NEXUSES + place] = rights->places[place].nexus;
+        numbers[KEYS + place] = rights->places[place].key;
+    }
+    return put_numbers(at, numbers, RECORD_NUMBERS);
+}
+
+/* Gives NULL, or why the numbers are no record: these two have 32 bits, and a
+   cut one would be another. */
+static const char *take_record(const uint8_t *at, struct ridge_unit *unit)
+{
+    struct ridge_rights *rights = &unit->rights;
+    uint64_t numbers[RECORD_NUMBERS];
+    take_numbers(at, numbers, RECORD_NUMBERS);
+    if (numbers[GENERATION] > UINT32_MAX)
+        return "its generation is too large: it has more than 32 bits";
+    if (numbers[TYPE] > UINT32_MAX)
+        return "its reservation type is too large: it has more than 32 bits";
+    unit->capacity = numbers[CAPACITY];
+    rights->generation = (uint32_t)numbers[GENERATION];
+    rights->type = (uint32_t)numbers[TYPE];
+    rights->holder = numbers[HOLDER];
+    for (size_t place = 0; place < RIDGE_PLACES; place++) {
+        rights->places[place].nexus = numbers[NEXUSES + place];
+        rights->places[place].key = numbers[KEYS + place];
+    }
+    return NULL;
 }
 
 size_t store_pack(const struct store *store, uint8_t *bytes)
 {
     put_number(bytes, store->slots, 4);
-    put_number(bytes + 4, RIDGE_STATE_WORDS, 4);
-    uint8_t *at = put_words(bytes + HEAD_BYTES, store->state, RIDGE_STATE_WORDS);
-    at = put_words(at, store->owners, store->slots);
+    put_number(bytes + 4, RECORD_NUMBERS, 4);
+    uint8_t *at = put_record(bytes + HEAD_BYTES, &store->unit);
+    at = put_numbers(at, store->owners, store->slots);
     memcpy(at, store->medium, store->slots * RIDGE_BLOCK_BYTES);
     return packed_bytes(store->slots);
 }
@@ -128,15 +183,17 @@ const char *store_unpack(struct store *store, uint32_t layout,
         return "its store is in a layout that this program does not know";
     if (count < HEAD_BYTES)
         return "its store is cut short";
-    uint64_t slots = number_at(bytes, 4), words = number_at(bytes + 4, 4);
+    uint64_t slots = number_at(bytes, 4), numbers = number_at(bytes + 4, 4);
     if (slots < 1 || slots > RIDGE_SLOTS)
         return "its number of slots is out of bounds";
-    if (words != RIDGE_STATE_WORDS || count != packed_bytes(slots))
+    if (numbers != RECORD_NUMBERS || count != packed_bytes(slots))
         return "its store does not have the length that its slots need";
+    const char *wrong = take_record(bytes + HEAD_BYTES, &store->unit);
+    if (wrong != NULL)
+        return wrong;
     store->slots = (size_t)slots;
-    const uint8_t *at =
-        take_words(bytes + HEAD_BYTES, store->state, RIDGE_STATE_WORDS);
-    at = take_words(at, store->owners, store->slots);
+    const uint8_t *at = take_numbers(bytes + HEAD_BYTES + STORE_RECORD_BYTES,
+                                     store->owners, store->slots);
     memcpy(store->medium, at, store->slots * RIDGE_BLOCK_BYTES);
     return is_usable(store) ? NULL : "its store is not in a valid state";
 }

@@ -13,12 +13,13 @@ enum {
     /* The layout of a store in bytes that store_pack writes. */
     STORE_LAYOUT = 1,
     STORE_SENSE_BYTES = RIDGE_SENSE_BYTES,
-    STORE_BYTES_MOST = 8 + 8 * RIDGE_STATE_WORDS +
+    STORE_RECORD_BYTES = 160,
+    STORE_BYTES_MOST = 8 + STORE_RECORD_BYTES +
                        (8 + RIDGE_BLOCK_BYTES) * RIDGE_SLOTS
 };
 
 struct store {
-    uint64_t state[RIDGE_STATE_WORDS];
+    struct ridge_unit unit;
     uint64_t owners[RIDGE_SLOTS];
     uint8_t medium[RIDGE_SLOTS * RIDGE_BLOCK_BYTES];
     size_t slots;

@@ -152,8 +152,8 @@ static void make_call(struct random *random, const struct store *store,
     if (random_percent(random, 10))
         generate_rare(random, store, request);
     else
-        generate_request(random, store, generate_nexus(random, store->state),
-                         request);
+        generate_request(random, store,
+                         generate_nexus(random, &store->unit.rights), request);
     request->nexus = (uint8_t)request->nexus;
 }
 
@@ -165,11 +165,10 @@ static void execute(struct store *store, const struct request *request)
     uint64_t returned;
 
     answers[second_execute(
-        store->state, RIDGE_STATE_WORDS, store->owners, store->slots,
-        store->medium, store->slots * RIDGE_BLOCK_BYTES, request->nexus,
-        request->cdb, request->cdb_bytes, request->data_out,
-        request->data_out_bytes, data_in, sizeof data_in, sense, sizeof sense,
-        &returned)]++;
+        &store->unit, store->owners, store->slots, store->medium,
+        store->slots * RIDGE_BLOCK_BYTES, request->nexus, request->cdb,
+        request->cdb_bytes, request->data_out, request->data_out_bytes,
+        data_in, sizeof data_in, sense, sizeof sense, &returned)]++;
 }
 
 /*
@@ -188,8 +187,7 @@ static void make_history(struct random *random, struct sheet *sheet)
     making.bytes = 0;
     memset(&store, 0, sizeof store);
     store.slots = BENCH_SLOTS;
-    second_fresh(BENCH_CAPACITY, store.state, RIDGE_STATE_WORDS, store.owners,
-                 store.slots);
+    second_fresh(BENCH_CAPACITY, &store.unit, store.owners, store.slots);
     for (size_t index = 0; index < calls; index++) {
         if (crowded && index < RIDGE_PLACES)
             make_registration((uint8_t)index, &request);

@@ -68,7 +68,7 @@ static void print_line(FILE *out, size_t number, uint64_t answer,
 void second_bench(const uint8_t *sheet, size_t bytes, FILE *out)
 {
     static struct call calls[SHEET_CALLS];
-    uint64_t state[RIDGE_STATE_WORDS] = {0};
+    struct ridge_unit unit = {0};
     uint64_t owners[BENCH_SLOTS] = {0};
     uint8_t medium[BENCH_SLOTS * RIDGE_BLOCK_BYTES] = {0};
 
@@ -77,17 +77,16 @@ void second_bench(const uint8_t *sheet, size_t bytes, FILE *out)
         return;
     }
     fputs("call,answer,status,sense,length,data\n", out);
-    second_fresh(BENCH_CAPACITY, state, RIDGE_STATE_WORDS, owners, BENCH_SLOTS);
+    second_fresh(BENCH_CAPACITY, &unit, owners, BENCH_SLOTS);
     for (size_t index = 0; index < sheet[0]; index++) {
         const struct call *call = &calls[index];
         uint8_t data_in[BENCH_DATA_IN] = {0};
         uint8_t sense[18] = {0};
         uint64_t returned = 0;
         uint64_t answer = second_execute(
-            state, RIDGE_STATE_WORDS, owners, BENCH_SLOTS, medium,
-            sizeof medium, call->nexus, call->cdb, call->cdb_bytes,
-            call->data_out, call->data_out_bytes, data_in, sizeof data_in,
-            sense, sizeof sense, &returned);
+            &unit, owners, BENCH_SLOTS, medium, sizeof medium, call->nexus,
+            call->cdb, call->cdb_bytes, call->data_out, call->data_out_bytes,
+            data_in, sizeof data_in, sense, sizeof sense, &returned);
 
         print_line(out, index + 1, answer, returned, data_in, sense);
     }

@@ -14,8 +14,8 @@
  * each time. Between these, each gets other calls of its own.
  *
  * Then each of the common calls gives the same answer, returned count, data-in
- * and sense in both, and leaves equal states; no reservation-out call changes a
- * block or a mapping, and no other shut-out call changes anything stored.
+ * and sense in both, and leaves equal records; no reservation-out call changes
+ * a block or a mapping, and no other shut-out call changes anything stored.
  *
  * Exit status: 0 all held and enough was compared; 1 something did not hold,
  * which is printed; 2 too little compared (asked of long runs alone), or bad
@@ -73,14 +73,9 @@ struct run {
 
 static void print_side(const char *name, const struct side *side)
 {
-    printf("%s: answer %" PRIu64 ", returned %" PRIu64 ", %zu slots\n  state",
-           name, side->answer, side->returned, side->store.slots);
-    for (size_t index = 0; index < RIDGE_STATE_WORDS; index++)
-        printf(" %" PRIX64, side->before.state[index]);
-    printf("\n  owners");
-    for (size_t slot = 0; slot < side->store.slots; slot++)
-        printf(" %" PRIX64, side->before.owners[slot]);
-    printf("\n");
+    printf("%s: answer %" PRIu64 ", returned %" PRIu64 "\n", name,
+           side->answer, side->returned);
+    console_store(&side->before.unit, side->before.owners, side->store.slots);
 }
 
 static void fail(const struct run *run, const char *what)
@@ -107,14 +102,14 @@ static bool is_reserve_out(const struct request *request)
 
 /* READ would conflict for it: under 3 all but the holder, under 6 and 8 all
    that are not registered. A nexus above 15 is never registered. */
-static bool is_shut_out(const uint64_t *state, uint64_t nexus)
+static bool is_shut_out(const struct ridge_rights *rights, uint64_t nexus)
 {
-    switch (state[RIDGE_WORD_TYPE]) {
+    switch (rights->type) {
     case 3:
-        return nexus != state[RIDGE_WORD_HOLDER];
+        return nexus != rights->holder;
     case 6:
     case 8:
-        return key_of(state, nexus) == 0;
+        return key_of(rights, nexus) == 0;
     default:
         return false;
     }
@@ -127,16 +122,16 @@ static void execute(struct run *run, struct side *side)
 
     memcpy(side->data_in, run->data_in, request->data_in_bytes);
     memcpy(side->sense, run->sense, sizeof side->sense);
-    memcpy(side->before.state, store->state, sizeof store->state);
+    side->before.unit = store->unit;
     memcpy(side->before.owners, store->owners, sizeof store->owners);
     memcpy(side->before.medium, store->medium,
            store->slots * RIDGE_BLOCK_BYTES);
     side->answer = ridge_execute(
-        store->state, RIDGE_STATE_WORDS, store->owners, store->slots,
-        store->medium, store->slots * RIDGE_BLOCK_BYTES, request->nexus,
-        request->cdb, request->cdb_bytes, request->data_out,
-        request->data_out_bytes, side->data_in, request->data_in_bytes,
-        side->sense, request->sense_bytes, &side->returned);
+        &store->unit, store->owners, store->slots, store->medium,
+        store->slots * RIDGE_BLOCK_BYTES, request->nexus, request->cdb,
+        request->cdb_bytes, request->data_out, request->data_out_bytes,
+        side->data_in, request->data_in_bytes, side->sense,
+        request->sense_bytes, &side->returned);
 }
 
 static bool map_kept(const struct side *side)
@@ -147,10 +142,16 @@ static bool map_kept(const struct side *side)
                   side->store.slots * RIDGE_BLOCK_BYTES) == 0;
 }
 
-static bool state_kept(const struct side *side)
+/* The record has no padding, so that its bytes are its fields. */
+static bool same_unit(const struct ridge_unit *one,
+                      const struct ridge_unit *other)
 {
-    return memcmp(side->before.state, side->store.state,
-                  sizeof side->store.state) == 0;
+    return memcmp(one, other, sizeof *one) == 0;
+}
+
+static bool unit_kept(const struct side *side)
+{
+    return same_unit(&side->before.unit, &side->store.unit);
 }
 
 /* The call in hand goes to both stores; all that the sender sees is equal. */
@@ -171,19 +172,19 @@ static void common_call(struct run *run)
         fail(run, "the data-in buffers of the two runs differ");
     if (memcmp(left->sense, right->sense, sizeof left->sense) != 0)
         fail(run, "the sense buffers of the two runs differ");
-    if (memcmp(left->store.state, right->store.state,
-               sizeof left->store.state) != 0)
-        fail(run, "the states of the two runs differ");
+    if (!same_unit(&left->store.unit, &right->store.unit))
+        fail(run, "the records of the two runs differ");
     if (!map_kept(left) || !map_kept(right))
         fail(run, "a block or a mapping has changed");
     if (!is_reserve_out(&run->request) &&
-        (!state_kept(left) || !state_kept(right)))
-        fail(run, "a shut-out call has changed the state");
+        (!unit_kept(left) || !unit_kept(right)))
+        fail(run, "a shut-out call has changed the record");
 }
 
 static void out_call(struct run *run)
 {
-    uint64_t nexus = generate_nexus(&run->random, run->left.store.state);
+    uint64_t nexus =
+        generate_nexus(&run->random, &run->left.store.unit.rights);
 
     generate_reserve_out(&run->random, &run->left.store, nexus, &run->request);
     common_call(run);
@@ -199,7 +200,7 @@ static void shut_out_call(struct run *run)
     uint64_t first = random_below(&run->random, 18);
     uint64_t nexus = first;
 
-    while (!is_shut_out(store->state, nexus)) {
+    while (!is_shut_out(&store->unit.rights, nexus)) {
         nexus = (nexus + 1) % 18;
         if (nexus == first)
             return;
@@ -214,9 +215,10 @@ static void shut_out_call(struct run *run)
 /* A call on one store alone, by a nexus that is not shut out. */
 static void other_call(struct run *run, struct side *side)
 {
-    uint64_t nexus = generate_nexus(&run->random, side->store.state);
+    const struct ridge_rights *rights = &side->store.unit.rights;
+    uint64_t nexus = generate_nexus(&run->random, rights);
 
-    if (is_shut_out(side->store.state, nexus))
+    if (is_shut_out(rights, nexus))
         return;
     generate_request(&run->random, &side->store, nexus, &run->request);
     if (is_reserve_out(&run->request))
@@ -226,8 +228,8 @@ static void other_call(struct run *run, struct side *side)
     run->figures.other_calls++;
     if (!map_kept(side))
         run->figures.other_good_writes++;
-    if (!state_kept(side))
-        fail(run, "a call that is no reservation-out call changed the state");
+    if (!unit_kept(side))
+        fail(run, "a call that is no reservation-out call changed the record");
 }
 
 /* ---- Pairs ---- */
@@ -239,9 +241,9 @@ static void make_pair(struct run *run)
 
     generate_store(&run->random, left);
     if (random_percent(&run->random, 80))
-        generate_reservation(&run->random, left->state,
-                             RANDOM_CHOICE(&run->random, 3, 6, 8));
-    memcpy(right->state, left->state, sizeof left->state);
+        generate_reservation(&run->random, &left->unit.rights,
+                             (uint32_t)RANDOM_CHOICE(&run->random, 3, 6, 8));
+    right->unit = left->unit;
     right->slots = generate_slots(&run->random);
     generate_map(&run->random, right);
     run->left.before.slots = left->slots;

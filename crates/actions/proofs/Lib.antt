@@ -1,1 +1,2 @@
 pub mod ActionCases
+pub mod Refusals

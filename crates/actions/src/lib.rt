@@ -1,12 +1,13 @@
 // The six actions of PERSISTENT RESERVE OUT: each tests what its rows test, in their order, and then changes the rights.
 ghost use mathlib.Core.Path.{_≡_};
 ghost use mathlib.Core.List.{[], _∷_};
-ghost use Rattle.answers.specs.Order.{_if_};
+ghost use Rattle.answers.specs.Order.{_if_, first};
 ghost use Rattle.answers.specs.Answers.{noPlace};
 ghost use Rattle.rights.specs.declared.Action.the-variants.{Register, Reserve, Release, Clear, Preempt, RegisterIgnoring};
-ghost use Rattle.rights.specs.Actions.{stranger, crowded, registering, preempting, decided};
+ghost use Rattle.rights.specs.Actions.{registerFlags, stranger, crowded, registering, preempting, decided};
 ghost use Rattle.actions.specs.Decided.{decidedBy};
 use answers::Answer;
+use fields::numbers;
 use reservations::places;
 use reservations::places::Change;
 use reservations::places::Want;
@@ -17,7 +18,7 @@ use rights::Parameters;
 use rights::Rights;
 
 // What a reservation-out call decides.
-pub fn decide(action: Action, rights: Rights, nexus: u8, parameters: Parameters) -> Decision
+pub fn decide(action: Action, rights: Rights, nexus: u64, parameters: Parameters) -> Decision
     ensures { λ r. ⌜ r ≡ decided action rights nexus parameters ⌝ }
 {
     match action {
@@ -30,8 +31,24 @@ pub fn decide(action: Action, rights: Rights, nexus: u8, parameters: Parameters)
     }
 }
 
+// What the flags answer to both kinds of registering: one row, one test.
+fn flag_refusal(parameters: Parameters) -> Answer
+    ensures { λ r. ⌜ r ≡ first (registerFlags parameters) ⌝ }
+{
+    if numbers::bit(parameters.flags, 3) {
+        return answers::list_field();
+    }
+    if numbers::bit(parameters.flags, 2) {
+        return answers::list_field();
+    }
+    if numbers::bit(parameters.flags, 0) {
+        return answers::list_field();
+    }
+    Answer::Good
+}
+
 // Whether the sender is unregistered, or its key wrong.
-fn stranger(rights: Rights, nexus: u8, parameters: Parameters) -> bool
+fn stranger(rights: Rights, nexus: u64, parameters: Parameters) -> bool
     ensures { λ r. ⌜ r ≡ stranger rights nexus parameters ⌝ }
 {
     let places = rights.places;
@@ -42,7 +59,7 @@ fn stranger(rights: Rights, nexus: u8, parameters: Parameters) -> bool
 }
 
 // Whether a nexus that has no place wants one, and all are used.
-fn crowded(rights: Rights, nexus: u8, parameters: Parameters) -> bool
+fn crowded(rights: Rights, nexus: u64, parameters: Parameters) -> bool
     ensures { λ r. ⌜ r ≡ crowded rights nexus parameters ⌝ }
 {
     let places = rights.places;
@@ -56,7 +73,7 @@ fn crowded(rights: Rights, nexus: u8, parameters: Parameters) -> bool
 }
 
 // The rights after a nexus gave a key, or 0.
-fn registering(rights: Rights, nexus: u8, key: u64) -> Rights
+fn registering(rights: Rights, nexus: u64, key: u64) -> Rights
     ensures { λ r. ⌜ r ≡ registering rights nexus key ⌝ }
 {
     let old = rights.places;
@@ -72,7 +89,7 @@ fn registering(rights: Rights, nexus: u8, key: u64) -> Rights
 }
 
 // What both kinds of registering share, once flags and key are tested.
-fn enter(rights: Rights, nexus: u8, parameters: Parameters) -> Decision
+fn enter(rights: Rights, nexus: u64, parameters: Parameters) -> Decision
     ensures { λ r. ⌜ r ≡ decidedBy (noPlace if crowded rights nexus parameters ∷ []) (registering rights nexus (parameters .service)) rights ⌝ }
 {
     if crowded(rights, nexus, parameters) {
@@ -86,13 +103,16 @@ fn enter(rights: Rights, nexus: u8, parameters: Parameters) -> Decision
     }
 }
 
-fn register(rights: Rights, nexus: u8, parameters: Parameters) -> Decision
+fn register(rights: Rights, nexus: u64, parameters: Parameters) -> Decision
     ensures { λ r. ⌜ r ≡ decided Register rights nexus parameters ⌝ }
 {
-    if parameters.flags {
-        let answer = answers::list_field();
-        return Decision { answer, rights };
-    }
+    let refusal = flag_refusal(parameters);
+    let Answer::Good = refusal else {
+        return Decision {
+            answer: refusal,
+            rights,
+        };
+    };
     let places = rights.places;
     if !(parameters.key == places::key_of(places, nexus)) {
         return Decision {
@@ -103,17 +123,20 @@ fn register(rights: Rights, nexus: u8, parameters: Parameters) -> Decision
     enter(rights, nexus, parameters)
 }
 
-fn register_ignoring(rights: Rights, nexus: u8, parameters: Parameters) -> Decision
+fn register_ignoring(rights: Rights, nexus: u64, parameters: Parameters) -> Decision
     ensures { λ r. ⌜ r ≡ decided RegisterIgnoring rights nexus parameters ⌝ }
 {
-    if parameters.flags {
-        let answer = answers::list_field();
-        return Decision { answer, rights };
-    }
+    let refusal = flag_refusal(parameters);
+    let Answer::Good = refusal else {
+        return Decision {
+            answer: refusal,
+            rights,
+        };
+    };
     enter(rights, nexus, parameters)
 }
 
-fn reserve(rights: Rights, nexus: u8, parameters: Parameters) -> Decision
+fn reserve(rights: Rights, nexus: u64, parameters: Parameters) -> Decision
     ensures { λ r. ⌜ r ≡ decided Reserve rights nexus parameters ⌝ }
 {
     if stranger(rights, nexus, parameters) {
@@ -147,7 +170,7 @@ fn reserve(rights: Rights, nexus: u8, parameters: Parameters) -> Decision
     }
 }
 
-fn release(rights: Rights, nexus: u8, parameters: Parameters) -> Decision
+fn release(rights: Rights, nexus: u64, parameters: Parameters) -> Decision
     ensures { λ r. ⌜ r ≡ decided Release rights nexus parameters ⌝ }
 {
     if stranger(rights, nexus, parameters) {
@@ -173,7 +196,7 @@ fn release(rights: Rights, nexus: u8, parameters: Parameters) -> Decision
     Decision { answer, rights }
 }
 
-fn clear(rights: Rights, nexus: u8, parameters: Parameters) -> Decision
+fn clear(rights: Rights, nexus: u64, parameters: Parameters) -> Decision
     ensures { λ r. ⌜ r ≡ decided Clear rights nexus parameters ⌝ }
 {
     if stranger(rights, nexus, parameters) {
@@ -192,7 +215,7 @@ fn clear(rights: Rights, nexus: u8, parameters: Parameters) -> Decision
 }
 
 // The rights after all with a key are removed.
-fn preempting(rights: Rights, nexus: u8, kind: u8, key: u64) -> Rights
+fn preempting(rights: Rights, nexus: u64, kind: u32, key: u64) -> Rights
     ensures { λ r. ⌜ r ≡ preempting rights nexus kind key ⌝ }
 {
     let old = rights.places;
@@ -204,7 +227,7 @@ fn preempting(rights: Rights, nexus: u8, kind: u8, key: u64) -> Rights
     standing::raised(standing::settled(standing::with_places(rights, places)))
 }
 
-fn preempt(rights: Rights, nexus: u8, parameters: Parameters) -> Decision
+fn preempt(rights: Rights, nexus: u64, parameters: Parameters) -> Decision
     ensures { λ r. ⌜ r ≡ decided Preempt rights nexus parameters ⌝ }
 {
     if stranger(rights, nexus, parameters) {

@@ -8,7 +8,7 @@ use Rattle.order.specs.Order.{OneGood}
 use Rattle.order.proofs.OrderLaws as Laws
 use Rattle.answers.specs.declared.Answer.{Answer}
 use Rattle.answers.specs.declared.Answer.the-variants.{Good, Refused, Conflict, Unusable, Short}
-use Rattle.answers.specs.Answers.{notListed, invalidField, outOfRange, listLength, listField, noPlace, otherType, noRoom, senses, sameSense, rowOf, numberOf}
+use Rattle.answers.specs.Answers.{notListed, invalidField, outOfRange, listLength, listField, noPlace, otherType, noRoom, codesOf, numberOf}
 use Rattle.answers.specs.Order.{Row, _if_, refuses, first, next, ifGood, refusing}
 
 good-alone : (a : Answer) → refuses a ≡ false → a ≡ Good
@@ -48,8 +48,15 @@ row-end = Laws.row-end Good
 pub next-good : (b : Answer) → next Good b ≡ b
 next-good = Laws.next-good one-good
 
+pub next-after : (a b : Answer) → a ≡ Good → next a b ≡ b
+next-after = Laws.next-after one-good
+
 pub next-refuses : (a b : Answer) → T (refuses a) → next a b ≡ a
 next-refuses = Laws.next-refuses refuses
+
+-- a later refusal is one of the whole
+pub next-refused : (a b : Answer) → T (refuses b) → T (refuses (next a b))
+next-refused = Laws.next-refused refuses
 
 pub next-end : (a : Answer) → next a Good ≡ a
 next-end = Laws.next-end one-good
@@ -63,6 +70,9 @@ next-second = Laws.next-second one-good
 
 pub next-next : (a b c : Answer) → next (next a b) c ≡ next a (next b c)
 next-next = Laws.next-next refuses
+
+pub refusing-append : (xs ys : List Row) → T (refusing xs) → T (refusing ys) → T (refusing (xs ++ ys))
+refusing-append = Laws.refusing-append refuses
 
 -- rows one after another are one order after another
 pub first-append : (xs ys : List Row) → T (refusing xs) → first (xs ++ ys) ≡ next (first xs) (first ys)
@@ -80,6 +90,10 @@ module _ {A : Type 0} where
   pub if-same : (a : Answer) (x : A) → ifGood a x x ≡ x
   if-same = Laws.if-same refuses
 
+-- no answer refuses and is GOOD
+pub not-good : {X : Type 0} (a : Answer) → T (refuses a) → a ≡ Good → X
+not-good = Laws.not-good one-good
+
 -- an answer is GOOD, or refuses
 pub good-cases : {X : Type 0} (a : Answer) → (a ≡ Good → X) → (T (refuses a) → X) → X
 good-cases = Laws.good-cases one-good
@@ -88,5 +102,5 @@ good-cases = Laws.good-cases one-good
 
 pub numbers-told :
     map numberOf (notListed ∷ invalidField ∷ outOfRange ∷ listLength ∷ listField ∷ noPlace ∷ otherType ∷ noRoom ∷ []) ≡ 1 ∷ 2 ∷ 3 ∷ 4 ∷ 5 ∷ 6 ∷ 7 ∷ 8 ∷ []
-unfolding numberOf rowOf senses sameSense
+unfolding numberOf codesOf
 numbers-told = refl

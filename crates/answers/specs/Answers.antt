@@ -1,77 +1,77 @@
 -- The answers: what document 01 gives each as number, status and sense.
 -- Assumes nothing.
-use mathlib.Core.Bool.{Bool, _&&_, cond}
 use mathlib.Core.List.{List, [], _∷_}
-use Prim.Native.Nat.{ℕ, suc}
-use lib.Dec.{eqb}
+use Prim.Native.Nat.{ℕ}
 use Rattle.fields.specs.Bytes.{put}
+use Rattle.answers.specs.declared.Refusal.{Refusal}
+use Rattle.answers.specs.declared.Refusal.the-variants.{NotListed, InvalidField, OutOfRange, ListLength, ListField, NoPlace, OtherType, NoRoom}
+use Rattle.answers.specs.declared.Codes.{Codes}
+use Rattle.answers.specs.declared.Pointer.the-variants.{Nowhere}
+use Rattle.answers.specs.declared.Information.the-variants.{Nothing as Untold}
 use Rattle.answers.specs.declared.Sense.{Sense}
 use Rattle.answers.specs.declared.Answer.{Answer}
 use Rattle.answers.specs.declared.Answer.the-variants.{Good, Refused, Conflict, Unusable, Short}
 use Rattle.answers.specs.declared.Status.{Status}
 use Rattle.answers.specs.declared.Status.the-variants.{Given, Nothing}
 
--- "Sense (key/ASC/ASCQ)"
-abbrev pub sense : ℕ → ℕ → ℕ → Sense
-sense key asc ascq = record { key = key; asc = asc; ascq = ascq }
+-- ---- the table of the answers that come with sense
 
--- 1 "operation code not listed"
+-- "No.", "Sense (key/ASC/ASCQ)"
+abbrev pub codes : ℕ → ℕ → ℕ → ℕ → Codes
+codes number key asc ascq = record { number = number; key = key; asc = asc; ascq = ascq }
+
+unfoldable pub codesOf : Refusal → Codes
+-- "operation code not listed"
+codesOf NotListed = codes 1 0x05 0x20 0x00
+-- "a field of the CDB, as named below"
+codesOf InvalidField = codes 2 0x05 0x24 0x00
+-- "block address + count > capacity"
+codesOf OutOfRange = codes 3 0x05 0x21 0x00
+-- "parameter list length"
+codesOf ListLength = codes 4 0x05 0x1A 0x00
+-- "a field of the parameter list"
+codesOf ListField = codes 5 0x05 0x26 0x00
+-- "new registration, all 8 places used"
+codesOf NoPlace = codes 6 0x05 0x55 0x04
+-- "holder's RELEASE names another type"
+codesOf OtherType = codes 7 0x05 0x26 0x04
+-- "more unmapped blocks in a write than free slots"
+codesOf NoRoom = codes 8 0x07 0x27 0x07
+
+-- a refusal that points at no field and tells no address
+abbrev pub plain : Refusal → Sense
+plain refusal = record { refusal = refusal; pointer = Nowhere; information = Untold }
+
 abbrev pub notListed : Answer
-notListed = Refused (sense 0x05 0x20 0x00)
+notListed = Refused (plain NotListed)
 
--- 2 "a field of the CDB, as named below"
 abbrev pub invalidField : Answer
-invalidField = Refused (sense 0x05 0x24 0x00)
+invalidField = Refused (plain InvalidField)
 
--- 3 "block address + count > capacity"
 abbrev pub outOfRange : Answer
-outOfRange = Refused (sense 0x05 0x21 0x00)
+outOfRange = Refused (plain OutOfRange)
 
--- 4 "parameter list length"
 abbrev pub listLength : Answer
-listLength = Refused (sense 0x05 0x1A 0x00)
+listLength = Refused (plain ListLength)
 
--- 5 "a field of the parameter list"
 abbrev pub listField : Answer
-listField = Refused (sense 0x05 0x26 0x00)
+listField = Refused (plain ListField)
 
--- 6 "new registration, all 8 places used"
 abbrev pub noPlace : Answer
-noPlace = Refused (sense 0x05 0x55 0x04)
+noPlace = Refused (plain NoPlace)
 
--- 7 "holder's RELEASE names another type"
 abbrev pub otherType : Answer
-otherType = Refused (sense 0x05 0x26 0x04)
+otherType = Refused (plain OtherType)
 
--- 8 "more unmapped blocks in a write than free slots"
 abbrev pub noRoom : Answer
-noRoom = Refused (sense 0x07 0x27 0x07)
+noRoom = Refused (plain NoRoom)
 
--- the sense of the answers 1 to 8, in the table's order
-unfoldable pub senses : List Sense
-senses =
-    sense 0x05 0x20 0x00
-    ∷ sense 0x05 0x24 0x00
-    ∷ sense 0x05 0x21 0x00
-    ∷ sense 0x05 0x1A 0x00
-    ∷ sense 0x05 0x26 0x00
-    ∷ sense 0x05 0x55 0x04
-    ∷ sense 0x05 0x26 0x04
-    ∷ sense 0x07 0x27 0x07
-    ∷ []
+-- ---- number, status and sense of every answer
 
-unfoldable pub sameSense : Sense → Sense → Bool
-sameSense s t = eqb (s .key) (t .key) && eqb (s .asc) (t .asc) && eqb (s .ascq) (t .ascq)
-
--- the row of a sense in the table, counted from 1; a sense that the table lacks comes after its last row
-unfoldable pub rowOf : Sense → List Sense → ℕ
-rowOf s [] = 1
-rowOf s (t ∷ ts) = cond (sameSense s t) 1 (suc (rowOf s ts))
-
--- document 01's number of each answer; "Number 9 is not used", and a sense outside the table would get it
+-- document 01's number of each answer; "Number 9 is not used"
 unfoldable pub numberOf : Answer → ℕ
 numberOf Good = 0
-numberOf (Refused s) = rowOf s senses
+numberOf (Refused s) = codesOf (s .refusal) .number
 numberOf Conflict = 10
 numberOf Unusable = 11
 numberOf Short = 12
@@ -90,8 +90,8 @@ senseBytes = 18
 
 -- "fixed format: byte 0 70h, byte 2 the key, byte 7 0Ah, bytes 12 and 13 the codes, others 0"
 unfoldable pub fixedFormat : Sense → List ℕ
-fixedFormat s =
-    0x70 ∷ 0 ∷ s .key ∷ 0 ∷ 0 ∷ 0 ∷ 0 ∷ 0x0A ∷ 0 ∷ 0 ∷ 0 ∷ 0 ∷ s .asc ∷ s .ascq ∷ 0 ∷ 0 ∷ 0 ∷ 0 ∷ []
+fixedFormat s = let k = codesOf (s .refusal) in
+    0x70 ∷ 0 ∷ k .key ∷ 0 ∷ 0 ∷ 0 ∷ 0 ∷ 0x0A ∷ 0 ∷ 0 ∷ 0 ∷ 0 ∷ k .asc ∷ k .ascq ∷ 0 ∷ 0 ∷ 0 ∷ 0 ∷ []
 
 -- "Where a status is 02h the first 18 bytes of the sense buffer become fixed format … Otherwise sense is untouched, as are sense bytes past 18 always"
 unfoldable pub senseAfter : Answer → List ℕ → List ℕ

@@ -2,17 +2,51 @@
 ghost use mathlib.Core.Path.{_≡_};
 ghost use Prim.Native.Nat.{_≤_};
 ghost use lib.ListN.{length};
-ghost use Rattle.answers.specs.Answers.{sense, notListed, invalidField, outOfRange, listLength, listField, noPlace, otherType, noRoom};
-ghost use Rattle.answers.specs.Answers.{senses, sameSense, rowOf, numberOf, statusOf, fixedFormat, senseAfter, senseBytes};
+ghost use Rattle.answers.specs.declared.Answer.the-variants.{Refused};
+ghost use Rattle.answers.specs.Answers.{plain, codes, codesOf, numberOf, statusOf, fixedFormat, senseAfter, senseBytes};
+ghost use Rattle.answers.specs.Answers.{notListed, invalidField, outOfRange, listLength, listField, noPlace, otherType, noRoom};
 
 // How many bytes sense has.
 pub const SENSE_BYTES: usize = 18;
 
-// Sense key, additional sense code and its qualifier.
-pub struct Sense {
+// The refusals that come with sense: each has one row in the table of answers.
+pub enum Refusal {
+    NotListed,
+    InvalidField,
+    OutOfRange,
+    ListLength,
+    ListField,
+    NoPlace,
+    OtherType,
+    NoRoom,
+}
+
+// A row of that table: 01's number, the sense key, the additional sense code and its qualifier.
+pub struct Codes {
+    pub number: u64,
     pub key: u8,
     pub asc: u8,
     pub ascq: u8,
+}
+
+// Where a wrong field lies: nowhere that is told, or by its first byte and highest bit in the CDB or in the parameter list.
+pub enum Pointer {
+    Nowhere,
+    Cdb(u16, u8),
+    List(u16, u8),
+}
+
+// The block address that a refusal tells.
+pub enum Information {
+    Nothing,
+    Address(u64),
+}
+
+// What sense data says of a refusal.
+pub struct Sense {
+    pub refusal: Refusal,
+    pub pointer: Pointer,
+    pub information: Information,
 }
 
 pub enum Answer {
@@ -29,92 +63,71 @@ pub enum Status {
     Nothing,
 }
 
+// A refusal that points at no field and tells no address.
+fn refused(refusal: Refusal) -> Answer
+    ensures { λ r. ⌜ r ≡ Refused (plain refusal) ⌝ }
+{
+    Answer::Refused(Sense {
+        refusal,
+        pointer: Pointer::Nowhere,
+        information: Information::Nothing,
+    })
+}
+
 // 1: operation code not listed.
 pub fn not_listed() -> Answer
     ensures { λ r. ⌜ r ≡ notListed ⌝ }
 {
-    Answer::Refused(Sense {
-        key: 0x05,
-        asc: 0x20,
-        ascq: 0x00,
-    })
+    refused(Refusal::NotListed)
 }
 
 // 2: a field of the CDB.
 pub fn invalid_field() -> Answer
     ensures { λ r. ⌜ r ≡ invalidField ⌝ }
 {
-    Answer::Refused(Sense {
-        key: 0x05,
-        asc: 0x24,
-        ascq: 0x00,
-    })
+    refused(Refusal::InvalidField)
 }
 
 // 3: block address + count > capacity.
 pub fn out_of_range() -> Answer
     ensures { λ r. ⌜ r ≡ outOfRange ⌝ }
 {
-    Answer::Refused(Sense {
-        key: 0x05,
-        asc: 0x21,
-        ascq: 0x00,
-    })
+    refused(Refusal::OutOfRange)
 }
 
 // 4: parameter list length.
 pub fn list_length() -> Answer
     ensures { λ r. ⌜ r ≡ listLength ⌝ }
 {
-    Answer::Refused(Sense {
-        key: 0x05,
-        asc: 0x1A,
-        ascq: 0x00,
-    })
+    refused(Refusal::ListLength)
 }
 
 // 5: a field of the parameter list.
 pub fn list_field() -> Answer
     ensures { λ r. ⌜ r ≡ listField ⌝ }
 {
-    Answer::Refused(Sense {
-        key: 0x05,
-        asc: 0x26,
-        ascq: 0x00,
-    })
+    refused(Refusal::ListField)
 }
 
 // 6: new registration, all 8 places used.
 pub fn no_place() -> Answer
     ensures { λ r. ⌜ r ≡ noPlace ⌝ }
 {
-    Answer::Refused(Sense {
-        key: 0x05,
-        asc: 0x55,
-        ascq: 0x04,
-    })
+    refused(Refusal::NoPlace)
 }
 
 // 7: holder's RELEASE names another type.
 pub fn other_type() -> Answer
     ensures { λ r. ⌜ r ≡ otherType ⌝ }
 {
-    Answer::Refused(Sense {
-        key: 0x05,
-        asc: 0x26,
-        ascq: 0x04,
-    })
+    refused(Refusal::OtherType)
 }
 
 // 8: more unmapped blocks in a write than free slots.
 pub fn no_room() -> Answer
     ensures { λ r. ⌜ r ≡ noRoom ⌝ }
 {
-    Answer::Refused(Sense {
-        key: 0x07,
-        asc: 0x27,
-        ascq: 0x07,
-    })
+    refused(Refusal::NoRoom)
 }
 
 // The number of each answer.
@@ -123,51 +136,45 @@ pub fn number_of(a: Answer) -> u64
 {
     match a {
         Answer::Good => 0,
-        Answer::Refused(s) => row(s),
+        Answer::Refused(sense) => number_in(sense),
         Answer::Conflict => 10,
         Answer::Unusable => 11,
         Answer::Short => 12,
     }
 }
 
-// The row of a sense among the answers 1 to 8; 9 where the table lacks it.
-fn row(s: Sense) -> u64
-    ensures { λ r. ⌜ r ≡ rowOf s senses ⌝ }
+fn number_in(sense: Sense) -> u64
+    ensures { λ r. ⌜ r ≡ codesOf (sense .refusal) .number ⌝ }
 {
-    if is(s, 0x05, 0x20, 0x00) {
-        return 1;
-    }
-    if is(s, 0x05, 0x24, 0x00) {
-        return 2;
-    }
-    if is(s, 0x05, 0x21, 0x00) {
-        return 3;
-    }
-    if is(s, 0x05, 0x1A, 0x00) {
-        return 4;
-    }
-    if is(s, 0x05, 0x26, 0x00) {
-        return 5;
-    }
-    if is(s, 0x05, 0x55, 0x04) {
-        return 6;
-    }
-    if is(s, 0x05, 0x26, 0x04) {
-        return 7;
-    }
-    if is(s, 0x07, 0x27, 0x07) {
-        return 8;
-    }
-    9
+    let refusal = sense.refusal;
+    let codes = codes_of(refusal);
+    codes.number
 }
 
-fn is(s: Sense, key: u8, asc: u8, ascq: u8) -> bool
-    ensures { λ r. ⌜ r ≡ sameSense s (sense key asc ascq) ⌝ }
+fn row(number: u64, key: u8, asc: u8, ascq: u8) -> Codes
+    ensures { λ r. ⌜ r ≡ codes number key asc ascq ⌝ }
 {
-    if s.key == key {
-        if s.asc == asc { s.ascq == ascq } else { false }
-    } else {
-        false
+    Codes {
+        number,
+        key,
+        asc,
+        ascq,
+    }
+}
+
+// The table of answers that come with sense.
+pub fn codes_of(refusal: Refusal) -> Codes
+    ensures { λ r. ⌜ r ≡ codesOf refusal ⌝ }
+{
+    match refusal {
+        Refusal::NotListed => row(1, 0x05, 0x20, 0x00),
+        Refusal::InvalidField => row(2, 0x05, 0x24, 0x00),
+        Refusal::OutOfRange => row(3, 0x05, 0x21, 0x00),
+        Refusal::ListLength => row(4, 0x05, 0x1A, 0x00),
+        Refusal::ListField => row(5, 0x05, 0x26, 0x00),
+        Refusal::NoPlace => row(6, 0x05, 0x55, 0x04),
+        Refusal::OtherType => row(7, 0x05, 0x26, 0x04),
+        Refusal::NoRoom => row(8, 0x07, 0x27, 0x07),
     }
 }
 
@@ -184,13 +191,15 @@ pub fn status_of(a: Answer) -> Status
     }
 }
 
-fn fixed_format(s: Sense) -> [u8; SENSE_BYTES]
-    ensures { λ r. ⌜ r ≡ fixedFormat s ⌝ }
+fn fixed_format(sense: Sense) -> [u8; SENSE_BYTES]
+    ensures { λ r. ⌜ r ≡ fixedFormat sense ⌝ }
 {
+    let refusal = sense.refusal;
+    let codes = codes_of(refusal);
     [
         0x70,
         0,
-        s.key,
+        codes.key,
         0,
         0,
         0,
@@ -200,8 +209,8 @@ fn fixed_format(s: Sense) -> [u8; SENSE_BYTES]
         0,
         0,
         0,
-        s.asc,
-        s.ascq,
+        codes.asc,
+        codes.ascq,
         0,
         0,
         0,

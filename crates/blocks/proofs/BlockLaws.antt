@@ -2,7 +2,7 @@
 -- Assumes nothing.
 use mathlib.Core.Path.{_≡_, refl, sym, ap, _∙_}
 use mathlib.Core.Bool.{Bool, true, false, not, _&&_, cond}
-use mathlib.Core.List.{List, []}
+use mathlib.Core.List.{List}
 use Prim.Native.Nat.{ℕ, _+_, _-_, _*_, _^_, _≤_, _<_}
 use native.Mathlib.Omega.{arith}
 use lib.Dec.{leb, ltb}
@@ -18,12 +18,9 @@ use Rattle.pool.specs.Pool.{Pool, readBlocks, writeBlocks, pool, roomFor}
 use Rattle.map.specs.Write.{Written, written, tryWrite}
 use Rattle.pool.proofs.Reading.{length-readBlocks}
 use Rattle.descriptors.specs.Descriptors.{considered, someFails, unmapAll}
-use Rattle.forms.specs.declared.Move.the-variants.{Read, Write, Unmap}
-use Rattle.forms.specs.declared.Form.{Form}
-use Rattle.forms.specs.Forms.{addressOf, sizeOf}
-use Rattle.store.specs.Move.{pastEnd, rangeRows, moved, fetched}
-use Rattle.reply.specs.Contract.{asking, giving}
-use Rattle.reply.specs.Reply.{replyOf, leaving, settles}
+use Rattle.store.specs.Move.{pastEnd, readRows, writeRows, unmapRows}
+use Rattle.reply.specs.Reply.{leaving}
+use Rattle.blocks.specs.Moved.{reads, writes, unmaps}
 use Rattle.reply.proofs.ReplyLaws.{plain, reply-refused, reply-done, settles-refused, settles-done}
 
 -- ---- the range
@@ -42,56 +39,44 @@ range-rest capacity address count h = go (ltb (capacity - count) address) refl
 pub range-in : (capacity address count : ℕ) → ltb capacity (address + count) ≡ false → capacity ≤ 2 ^ 40 → address + count ≤ 2 ^ 40
 range-in capacity address count e h = let k : address + count ≤ capacity = ltb-false capacity (address + count) e in omega arith
 
--- ---- READ and WRITE: x and n are the address and the count
+-- ---- READ: of the n blocks from x on
 
-module _ (f : Form) (capacity : ℕ) (cdb : List ℕ) (x n : ℕ) (ex : x ≡ addressOf f cdb) (en : n ≡ sizeOf f cdb) where
-  past : (b : Bool) → ltb capacity (x + n) ≡ b → pastEnd f capacity cdb ≡ b
-  unfolding pastEnd
-  past b e = rw (← ex, ← en) e
+module _ (capacity x n : ℕ) (p : Pool) (dataIn : List ℕ) where
+  pub read-range : (a : Answer) → a ≡ outOfRange → ltb capacity (x + n) ≡ true → plain a dataIn ≡ reads capacity p x n dataIn
+  unfolding readRows pastEnd refuses
+  read-range a e h = rw e (reply-refused _ outOfRange _ dataIn (row-stop outOfRange _ _ h) tt)
 
-  lent-short : (lent : ℕ) → lent < 512 * n → ltb lent (512 * sizeOf f cdb) ≡ true
-  lent-short lent h = rw (← en) (lt-ltb lent (512 * n) h)
+  pub read-short : ltb capacity (x + n) ≡ false → length dataIn < 512 * n → plain Short dataIn ≡ reads capacity p x n dataIn
+  unfolding readRows pastEnd refuses
+  read-short h k =
+      reply-refused _ Short _ dataIn
+      (row-pass outOfRange _ _ h ∙ row-stop Short _ _ (lt-ltb (length dataIn) (512 * n) k)) tt
 
-  lent-enough : (lent : ℕ) → 512 * n ≤ lent → ltb lent (512 * sizeOf f cdb) ≡ false
-  lent-enough lent h = rw (← en) (le-ltb lent (512 * n) h)
+  pub read-done : (after : List ℕ) → ltb capacity (x + n) ≡ false → 512 * n ≤ length dataIn → length (p .medium) ≡ 512 * length (p .owners)
+      → after ≡ put dataIn 0 (readBlocks p x n)
+      → record { answer = Good; returned = 512 * n; dataIn = after } ≡ reads capacity p x n dataIn
+  unfolding readRows pastEnd
+  read-done after h k whole e =
+      reply-done _ _ dataIn (512 * n) after
+      (row-pass outOfRange _ _ h ∙ row-pass Short _ _ (le-ltb (length dataIn) (512 * n) k) ∙ row-end)
+      (sym (length-readBlocks p x n whole))
+      e
 
-  module _ (p : Pool) (dataIn : List ℕ) where
-    pub read-range : (a : Answer) → a ≡ outOfRange → ltb capacity (x + n) ≡ true
-        → plain a dataIn ≡ replyOf (first (rangeRows f Read capacity p (asking cdb dataIn))) (fetched f Read p (asking cdb dataIn)) dataIn
-    unfolding rangeRows refuses
-    read-range a e h = rw e (reply-refused _ outOfRange _ dataIn (row-stop outOfRange _ _ (past true h)) tt)
+-- ---- WRITE: to the n blocks from x on
 
-    pub read-short : ltb capacity (x + n) ≡ false → length dataIn < 512 * n
-        → plain Short dataIn ≡ replyOf (first (rangeRows f Read capacity p (asking cdb dataIn))) (fetched f Read p (asking cdb dataIn)) dataIn
-    unfolding rangeRows refuses
-    read-short h k =
-        reply-refused _ Short _ dataIn
-        (row-pass outOfRange _ _ (past false h) ∙ row-stop Short _ _ (lent-short (length dataIn) k)) tt
+module _ (capacity x n : ℕ) (p : Pool) (out : List ℕ) where
+  pub write-range : (a : Answer) → a ≡ outOfRange → ltb capacity (x + n) ≡ true → leaving a p ≡ writes capacity p x n out
+  unfolding writeRows pastEnd refuses
+  write-range a e h = rw e (settles-refused _ outOfRange _ p (row-stop outOfRange _ _ h) tt)
 
-    pub read-done : (after : List ℕ) → ltb capacity (x + n) ≡ false → 512 * n ≤ length dataIn → length (p .medium) ≡ 512 * length (p .owners)
-        → after ≡ put dataIn 0 (readBlocks p x n)
-        → record { answer = Good; returned = 512 * n; dataIn = after } ≡ replyOf (first (rangeRows f Read capacity p (asking cdb dataIn))) (fetched f Read p (asking cdb dataIn)) dataIn
-    unfolding rangeRows fetched
-    read-done after h k whole e =
-        reply-done _ _ dataIn (512 * n) after
-        (row-pass outOfRange _ _ (past false h) ∙ row-pass Short _ _ (lent-enough (length dataIn) k) ∙ row-end)
-        (rw (← ex, ← en) (sym (length-readBlocks p x n whole)))
-        (rw (← ex, ← en) e)
-
-  module _ (p : Pool) (out : List ℕ) where
-    pub write-range : (a : Answer) → a ≡ outOfRange → ltb capacity (x + n) ≡ true
-        → leaving a p ≡ settles (first (rangeRows f Write capacity p (giving cdb out))) (moved f Write p (giving cdb out)) p
-    unfolding rangeRows refuses
-    write-range a e h = rw e (settles-refused _ outOfRange _ p (row-stop outOfRange _ _ (past true h)) tt)
-
-    pub write-short : ltb capacity (x + n) ≡ false → length out < 512 * n
-        → leaving Short p ≡ settles (first (rangeRows f Write capacity p (giving cdb out))) (moved f Write p (giving cdb out)) p
-    unfolding rangeRows refuses
-    write-short h k =
+  module _ (h : ltb capacity (x + n) ≡ false) where
+    pub write-short : length out < 512 * n → leaving Short p ≡ writes capacity p x n out
+    unfolding writeRows pastEnd refuses
+    write-short k =
         settles-refused _ Short _ p
-        (row-pass outOfRange _ _ (past false h) ∙ row-stop Short _ _ (lent-short (length out) k)) tt
+        (row-pass outOfRange _ _ h ∙ row-stop Short _ _ (lt-ltb (length out) (512 * n) k)) tt
 
-    module _ (done : Bool) (owners medium : List ℕ) (w : written done owners medium ≡ tryWrite p x n out) where
+    module _ (k : 512 * n ≤ length out) (done : Bool) (owners medium : List ℕ) (w : written done owners medium ≡ tryWrite p x n out) where
       had-room : done ≡ roomFor (p .owners) x n
       unfolding tryWrite
       had-room = ap (λ (v : Written). v .done) w
@@ -100,50 +85,43 @@ module _ (f : Form) (capacity : ℕ) (cdb : List ℕ) (x n : ℕ) (ex : x ≡ ad
       unfolding tryWrite
       became b e = ap (λ (v : Written). v .after) w ∙ rw (← ap (λ (v : Written). v .done) w, e)
 
-      pub write-done : ltb capacity (x + n) ≡ false → 512 * n ≤ length out → done ≡ true
-          → leaving Good (pool owners medium) ≡ settles (first (rangeRows f Write capacity p (giving cdb out))) (moved f Write p (giving cdb out)) p
-      unfolding rangeRows moved
-      write-done h k e =
+      pub write-done : done ≡ true → leaving Good (pool owners medium) ≡ writes capacity p x n out
+      unfolding writeRows pastEnd
+      write-done e =
           settles-done _ _ p (pool owners medium)
-          (row-pass outOfRange _ _ (past false h)
-          ∙ row-pass Short _ _ (lent-enough (length out) k)
-          ∙ row-pass noRoom _ _ (rw (← ex, ← en) (ap not (sym had-room ∙ e)))
+          (row-pass outOfRange _ _ h
+          ∙ row-pass Short _ _ (le-ltb (length out) (512 * n) k)
+          ∙ row-pass noRoom _ _ (ap not (sym had-room ∙ e))
           ∙ row-end)
-          (rw (← ex, ← en) (became true e))
+          (became true e)
 
-      pub write-full : (a : Answer) → a ≡ noRoom → ltb capacity (x + n) ≡ false → 512 * n ≤ length out → done ≡ false
-          → leaving a (pool owners medium) ≡ settles (first (rangeRows f Write capacity p (giving cdb out))) (moved f Write p (giving cdb out)) p
-      unfolding rangeRows refuses
-      write-full a g h k e =
+      pub write-full : (a : Answer) → a ≡ noRoom → done ≡ false → leaving a (pool owners medium) ≡ writes capacity p x n out
+      unfolding writeRows pastEnd refuses
+      write-full a g e =
           rw (g, became false e)
           (settles-refused _ noRoom _ p
-          (row-pass outOfRange _ _ (past false h)
-          ∙ row-pass Short _ _ (lent-enough (length out) k)
-          ∙ row-stop noRoom _ _ (rw (← ex, ← en) (ap not (sym had-room ∙ e))))
+          (row-pass outOfRange _ _ h
+          ∙ row-pass Short _ _ (le-ltb (length out) (512 * n) k)
+          ∙ row-stop noRoom _ _ (ap not (sym had-room ∙ e)))
           tt)
 
--- ---- UNMAP: n is the list length and k the descriptors considered
+-- ---- UNMAP: n is the list length and m the descriptors considered
 
-module _ (f : Form) (capacity : ℕ) (cdb out owners : List ℕ) (n : ℕ) (en : n ≡ sizeOf f cdb) where
-  pub unmap-broken : (a : Answer) → a ≡ listLength → (leb 1 n && leb n 7) ≡ true
-      → leaving a owners ≡ settles (first (rangeRows f Unmap capacity (pool owners []) (giving cdb out))) (unmapAll owners out 8 (considered (sizeOf f cdb) out)) owners
-  unfolding rangeRows refuses
-  unmap-broken a e h = rw (← en, e) (settles-refused _ listLength _ owners (row-stop listLength _ _ h) tt)
+module _ (capacity n : ℕ) (out owners : List ℕ) where
+  pub unmap-broken : (a : Answer) → a ≡ listLength → (leb 1 n && leb n 7) ≡ true → leaving a owners ≡ unmaps capacity owners n out
+  unfolding unmapRows refuses
+  unmap-broken a e h = rw e (settles-refused _ listLength _ owners (row-stop listLength _ _ h) tt)
 
   module _ (h : (leb 1 n && leb n 7) ≡ false) where
-    pub unmap-short : length out < n
-        → leaving Short owners ≡ settles (first (rangeRows f Unmap capacity (pool owners []) (giving cdb out))) (unmapAll owners out 8 (considered (sizeOf f cdb) out)) owners
-    unfolding rangeRows refuses
-    unmap-short k =
-        rw (← en)
-        (settles-refused _ Short _ owners (row-pass listLength _ _ h ∙ row-stop Short _ _ (lt-ltb (length out) n k)) tt)
+    pub unmap-short : length out < n → leaving Short owners ≡ unmaps capacity owners n out
+    unfolding unmapRows refuses
+    unmap-short k = settles-refused _ Short _ owners (row-pass listLength _ _ h ∙ row-stop Short _ _ (lt-ltb (length out) n k)) tt
 
     module _ (k : n ≤ length out) (m : ℕ) (em : m ≡ considered n out) where
-      pub unmap-many : (a : Answer) → a ≡ listField → 16 < m
-          → leaving a owners ≡ settles (first (rangeRows f Unmap capacity (pool owners []) (giving cdb out))) (unmapAll owners out 8 (considered (sizeOf f cdb) out)) owners
-      unfolding rangeRows refuses
+      pub unmap-many : (a : Answer) → a ≡ listField → 16 < m → leaving a owners ≡ unmaps capacity owners n out
+      unfolding unmapRows refuses
       unmap-many a e l =
-          rw (← en, e)
+          rw e
           (settles-refused _ listField _ owners
           (row-pass listLength _ _ h
           ∙ row-pass Short _ _ (le-ltb (length out) n k)
@@ -151,11 +129,10 @@ module _ (f : Form) (capacity : ℕ) (cdb out owners : List ℕ) (n : ℕ) (en :
           tt)
 
       module _ (l : m ≤ 16) where
-        pub unmap-range : (a : Answer) → a ≡ outOfRange → someFails capacity out 8 m ≡ true
-            → leaving a owners ≡ settles (first (rangeRows f Unmap capacity (pool owners []) (giving cdb out))) (unmapAll owners out 8 (considered (sizeOf f cdb) out)) owners
-        unfolding rangeRows refuses
+        pub unmap-range : (a : Answer) → a ≡ outOfRange → someFails capacity out 8 m ≡ true → leaving a owners ≡ unmaps capacity owners n out
+        unfolding unmapRows refuses
         unmap-range a e t =
-            rw (← en, e)
+            rw e
             (settles-refused _ outOfRange _ owners
             (row-pass listLength _ _ h
             ∙ row-pass Short _ _ (le-ltb (length out) n k)
@@ -164,14 +141,13 @@ module _ (f : Form) (capacity : ℕ) (cdb out owners : List ℕ) (n : ℕ) (en :
             tt)
 
         pub unmap-done : (after : List ℕ) → someFails capacity out 8 m ≡ false → after ≡ unmapAll owners out 8 m
-            → leaving Good after ≡ settles (first (rangeRows f Unmap capacity (pool owners []) (giving cdb out))) (unmapAll owners out 8 (considered (sizeOf f cdb) out)) owners
-        unfolding rangeRows
+            → leaving Good after ≡ unmaps capacity owners n out
+        unfolding unmapRows
         unmap-done after t e =
-            rw (← en)
-            (settles-done _ _ owners after
+            settles-done _ _ owners after
             (row-pass listLength _ _ h
             ∙ row-pass Short _ _ (le-ltb (length out) n k)
             ∙ row-pass listField _ _ (ap (ltb 16) (sym em) ∙ le-ltb 16 m l)
             ∙ row-pass outOfRange _ _ (ap (someFails capacity out 8) (sym em) ∙ t)
             ∙ row-end)
-            (e ∙ ap (unmapAll owners out 8) em))
+            (e ∙ ap (unmapAll owners out 8) em)

@@ -4,12 +4,9 @@ ghost use Prim.Native.Nat.{_+_, _≤_};
 ghost use lib.Dec.{ltb};
 ghost use Rattle.pool.specs.Bounds.{mostTransfer};
 ghost use Rattle.pool.specs.Pool.{pool};
-ghost use Rattle.forms.specs.Forms.{countOf};
-ghost use Rattle.decoder.specs.Sound.{Sound};
 ghost use Rattle.reply.specs.Reply.{Bounded, replied, leaving};
 ghost use Rattle.blocks.specs.Moved.{reads, writes};
 use answers::Answer;
-use forms::Form;
 use pool::BLOCK_BYTES;
 use pool::Lba;
 use reply::Reply;
@@ -25,19 +22,17 @@ fn past_end(capacity: u64, lba: Lba, count: u64) -> bool
 }
 
 pub fn read(
-    form: Form,
     capacity: u64,
     owners: &[u64],
     medium: &[u8],
-    cdb: &[u8],
+    lba: Lba,
+    count: u64,
     data_in: &mut [u8],
 ) -> Reply
-    requires { ⌜ Sound form × Bounded capacity (now owners) (now medium) × (countOf form (now cdb) ≤ mostTransfer) ⌝ }
+    requires { ⌜ Bounded capacity (now owners) (now medium) × (count ≤ mostTransfer) ⌝ }
     ensures { λ r. ⌜ replied r (now («data_in» .exit))
-        ≡ reads form capacity (pool (now (owners .entry)) (now (medium .entry))) (now (cdb .entry)) (now («data_in» .entry)) ⌝ }
+        ≡ reads capacity (pool (now (owners .entry)) (now (medium .entry))) (lba .0) count (now («data_in» .entry)) ⌝ }
 {
-    let lba = decoder::address(form, cdb);
-    let count = decoder::size(form, cdb);
     if past_end(capacity, lba, count) {
         let answer = answers::out_of_range();
         return Reply {
@@ -61,19 +56,17 @@ pub fn read(
 }
 
 pub fn write(
-    form: Form,
     capacity: u64,
     owners: &mut [u64],
     medium: &mut [u8],
-    cdb: &[u8],
+    lba: Lba,
+    count: u64,
     data_out: &[u8],
 ) -> Answer
-    requires { ⌜ Sound form × Bounded capacity (now owners) (now medium) × (countOf form (now cdb) ≤ mostTransfer) ⌝ }
+    requires { ⌜ Bounded capacity (now owners) (now medium) × (count ≤ mostTransfer) ⌝ }
     ensures { λ r. ⌜ leaving r (pool (now (owners .exit)) (now (medium .exit)))
-        ≡ writes form capacity (pool (now (owners .entry)) (now (medium .entry))) (now (cdb .entry)) (now («data_out» .entry)) ⌝ }
+        ≡ writes capacity (pool (now (owners .entry)) (now (medium .entry))) (lba .0) count (now («data_out» .entry)) ⌝ }
 {
-    let lba = decoder::address(form, cdb);
-    let count = decoder::size(form, cdb);
     if past_end(capacity, lba, count) {
         return answers::out_of_range();
     }

@@ -4,12 +4,10 @@ ghost use mathlib.Core.Bool.{_&&_};
 ghost use Prim.Native.Nat.{_≤_};
 ghost use lib.Dec.{leb};
 ghost use Rattle.pool.specs.Bounds.{mostBlocks};
-ghost use Rattle.decoder.specs.Sound.{Sound};
 ghost use Rattle.reply.specs.Reply.{leaving};
 ghost use Rattle.blocks.specs.Moved.{unmaps};
 use answers::Answer;
 use descriptors::MOST_DESCRIPTORS;
-use forms::Form;
 
 // Whether a list of this length breaks off within its header.
 fn broken_off(length: u64) -> bool
@@ -21,12 +19,11 @@ fn broken_off(length: u64) -> bool
     length <= 7
 }
 
-// All descriptors are tested before any acts.
-pub fn unmap(form: Form, capacity: u64, owners: &mut [u64], cdb: &[u8], data_out: &[u8]) -> Answer
-    requires { ⌜ Sound form × (capacity ≤ mostBlocks) ⌝ }
-    ensures { λ r. ⌜ leaving r (now (owners .exit)) ≡ unmaps form capacity (now (owners .entry)) (now (cdb .entry)) (now («data_out» .entry)) ⌝ }
+// All descriptors are tested before any acts; `length` is that of the parameter list.
+pub fn unmap(capacity: u64, owners: &mut [u64], length: u64, data_out: &[u8]) -> Answer
+    requires { ⌜ capacity ≤ mostBlocks ⌝ }
+    ensures { λ r. ⌜ leaving r (now (owners .exit)) ≡ unmaps capacity (now (owners .entry)) length (now («data_out» .entry)) ⌝ }
 {
-    let length = decoder::size(form, cdb);
     if broken_off(length) {
         return answers::list_length();
     }

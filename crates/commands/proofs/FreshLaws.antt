@@ -10,8 +10,7 @@ use Rattle.answers.specs.declared.Answer.the-variants.{Good, Unusable}
 use Rattle.answers.specs.Order.{ifGoodBy, refuses}
 use Rattle.answers.proofs.OrderLaws.{row-pass, row-stop, row-end}
 use Rattle.pool.specs.Valid.{capacityOk, slotsOk}
-use Rattle.rights.specs.declared.Rights.{Rights}
-use Rattle.rights.specs.Rights.{noRights}
+use Rattle.store.specs.declared.Unit.{Unit}
 use Rattle.store.specs.Fresh.{freshUnit, freshAnswer, fresh}
 use Rattle.reply.specs.declared.Made.{Made}
 use Rattle.reply.specs.Contract.{made}
@@ -41,7 +40,7 @@ module _ (capacity : ℕ) (owners : List ℕ) where
     pub fresh-slots : capacityOk capacity ≡ true → slotsOk (length owners) ≡ false → made r owners ≡ fresh capacity owners
     fresh-slots h k = refused (bad-slots h k)
 
-  pub fresh-made : (rights : Rights) (after : List ℕ) → rights ≡ noRights → capacityOk capacity ≡ true → slotsOk (length owners) ≡ true → after ≡ zeros (length owners)
-      → made (record { answer = Good; unit = record { capacity = capacity; rights = rights } }) after ≡ fresh capacity owners
-  unfolding fresh freshUnit ifGoodBy refuses
-  fresh-made rights after none e h k = rw (none, k, no-fault e h)
+  pub fresh-made : (unit : Unit) (after : List ℕ) → unit ≡ freshUnit capacity → capacityOk capacity ≡ true → slotsOk (length owners) ≡ true → after ≡ zeros (length owners)
+      → made (record { answer = Good; unit = unit }) after ≡ fresh capacity owners
+  unfolding fresh ifGoodBy refuses
+  fresh-made unit after u e h k = rw (u, k, no-fault e h)

@@ -1,3 +1,4 @@
+pub mod StageLaws
 pub mod StepLaws
 pub mod ServedLaws
 pub mod FreshLaws

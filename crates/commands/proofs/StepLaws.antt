@@ -1,38 +1,35 @@
--- `step` by its parts: the tests before any command, the CDB by itself, the command's own. Callers cite these laws, and not the text of `step`.
+-- `step` as the code goes through it: the tests before any command, the stages, the command's own. Callers cite these laws, and not the text of `step`.
 -- Assumes nothing.
 use mathlib.Core.Path.{_≡_, refl, sym, ap, _∙_}
 use mathlib.Core.Bool.{Bool, true, false, not, _&&_, true≢false, false≢true}
-use mathlib.Core.Logic.{inl, inr}
 use mathlib.Core.List.{List, [], _∷_, _++_}
 use Prim.Native.Nat.{ℕ}
-use native.Mathlib.Omega.{arith}
 use lib.Dec.{T}
-use types.Run.{OneOf}
-use denote.Enum.Declared.{tagOf}
-use Rattle.answers.proofs.Answer.{the-type}
 use Rattle.answers.specs.declared.Answer.{Answer}
 use Rattle.answers.specs.declared.Answer.the-variants.{Good, Refused, Conflict, Unusable, Short}
 use Rattle.answers.specs.Answers.{senseAfter}
 use Rattle.answers.specs.Order.{Row, _if_, first, next, firstOf, ifGoodBy, refuses}
-use Rattle.answers.proofs.OrderLaws.{first-append, next-good, next-refuses}
+use Rattle.answers.proofs.OrderLaws.{first-append, next-after, next-refuses}
 use Rattle.forms.specs.declared.Move.the-variants.{Read, Write, Unmap}
 use Rattle.forms.specs.declared.Command.{Command}
-use Rattle.forms.specs.declared.Command.the-variants.{Tells, Moves, Alters, Unknown, Unlisted}
-use Rattle.forms.specs.declared.Form.{Form}
-use Rattle.forms.specs.Forms.{formOf}
-use Rattle.forms.specs.Tests.{formRows}
-use Rattle.forms.proofs.Refusing.{form-refusing}
-use Rattle.reply.specs.declared.Outcome.{Outcome}
-use Rattle.store.specs.Store.{Store, Call, Result, seenOf}
+use Rattle.forms.specs.declared.Command.the-variants.{Tells, Moves, Alters}
+use Rattle.forms.specs.declared.Entry.{Entry}
+use Rattle.forms.specs.declared.Request.{Request}
+use Rattle.forms.specs.Forms.{entryOf, Asked, asks, askedIn, askedOf}
+use Rattle.forms.specs.Tests.{fieldRows}
+use Rattle.forms.proofs.Fields.{Fits, asked-fits}
+use Rattle.decoder.specs.declared.Decoded.the-variants.{Asks, Wrong}
+use Rattle.store.specs.Store.{Store, Call, Result, leaves, seenOf}
 use Rattle.store.specs.Tell.{tellRows}
-use Rattle.store.specs.Move.{moveRows, rangeRows, moved, fetched}
+use Rattle.store.specs.Move.{moveRows, moved}
 use Rattle.store.specs.Alter.{alterRows}
-use Rattle.store.specs.Step.{callRows, storeRows, ownRows, answerBy, dataBy, storeBy, stepBy, step}
+use Rattle.store.specs.Step.{callRows, storeRows, stageRows, commandRows, ownRows, answerBy, commandData, dataBy, commandStore, storeBy, stepBy, step}
+use Rattle.reply.specs.declared.Outcome.{Outcome}
 use Rattle.reply.specs.Contract.{callOf, left}
-use Rattle.readiness.specs.Ready.{readyFor}
-use Rattle.commands.specs.Served.{servedBy, servedWith, bare}
 use Rattle.reply.specs.Reply.{replyOf, Served, served, serves}
-use Rattle.reply.proofs.ReplyLaws.{plain, serving, serves-refused}
+use Rattle.readiness.specs.Ready.{readyFor}
+use Rattle.commands.specs.Served.{askedAt, servedBy, bare}
+use Rattle.commands.proofs.StageLaws.{stage-refusing, stage-fields, wrong-answer, wrong-refused, asks-answer, asks-request}
 
 -- ---- the tests before any command
 
@@ -54,110 +51,108 @@ rows-stop false false true u rows e = refl
 rows-stop false false false true rows e = absurd (true≢false e)
 rows-stop false false false false rows e = refl
 
-module _ (f : Form) (s : Store) (c : Call) where
-  answer-ready : readyFor s c ≡ true → answerBy f s c ≡ first (formRows f (f .command) (c .cdb) ++ ownRows f (f .command) s c)
+module _ (e : Entry) (s : Store) (c : Call) where
+  answer-unready : readyFor s c ≡ false → answerBy e s c ≡ Unusable
   unfolding answerBy callRows storeRows readyFor
-  answer-ready e = rows-pass _ _ _ _ _ e
+  answer-unready h = rows-stop _ _ _ _ _ h
 
-  answer-unready : readyFor s c ≡ false → answerBy f s c ≡ Unusable
+  answer-ready : readyFor s c ≡ true
+      → answerBy e s c ≡ next (first (stageRows e (s .unit .rights) (c .nexus) (c .cdb))) (first (ownRows (askedIn e (c .cdb)) s c))
   unfolding answerBy callRows storeRows readyFor
-  answer-unready e = rows-stop _ _ _ _ _ e
+  answer-ready h =
+      rows-pass _ _ _ _ _ h
+      ∙ first-append (stageRows e (s .unit .rights) (c .nexus) (c .cdb)) _ (stage-refusing e (s .unit .rights) (c .nexus) (c .cdb))
 
--- ---- the sense comes last
+  -- the stages refuse
+  answer-wrong : (a : Answer) → readyFor s c ≡ true → askedAt e (s .unit .rights) (c .nexus) (c .cdb) ≡ Wrong a → answerBy e s c ≡ a
+  answer-wrong a h w =
+      answer-ready h
+      ∙ next-refuses _ _ (wrong-refused e (s .unit .rights) (c .nexus) (c .cdb) a w)
+      ∙ wrong-answer e (s .unit .rights) (c .nexus) (c .cdb) a w
 
--- all that a call leaves, the sense with it
-abbrev sensed : Served → List ℕ → Result
-sensed v sense = record {
-  seen = record {
-    answer = v .reply .answer;
-    returned = v .reply .returned;
-    dataIn = v .reply .dataIn;
-    sense = senseAfter (v .reply .answer) sense;
-  };
-  store = v .store;
-}
+  -- they let a request pass
+  answer-asks : (q : Request) → readyFor s c ≡ true → askedAt e (s .unit .rights) (c .nexus) (c .cdb) ≡ Asks q
+      → answerBy e s c ≡ first (commandRows (q .command) q s c)
+  unfolding ownRows
+  answer-asks q h w =
+      answer-ready h
+      ∙ next-after _ _ (asks-answer e (s .unit .rights) (c .nexus) (c .cdb) q w)
+      ∙ ap (λ (x : Asked). first (ownRows x s c)) (asks-request e (s .unit .rights) (c .nexus) (c .cdb) q w)
 
-step-ready : (s : Store) (c : Call) → readyFor s c ≡ true → sensed (servedWith (formOf (c .cdb)) s c) (c .sense) ≡ step s c
-unfolding step stepBy seenOf servedWith serves replyOf
-step-ready s c e = rw (answer-ready (formOf (c .cdb)) s c e)
+-- ---- a call that is refused before its command is looked at
 
--- no command looks at the sense buffer
-servedAs : Form → Command → Store → Call → Served
-servedAs f k s c = serves (first (formRows f k (c .cdb) ++ ownRows f k s c)) (dataBy f k s c) (storeBy f k s c) s (c .dataIn)
-
-sense-unseen : (f : Form) (k : Command) (s : Store) (n : ℕ) (cdb out in′ sense : List ℕ)
-    → servedAs f k s (callOf n cdb out in′ []) ≡ servedAs f k s (callOf n cdb out in′ sense)
-unfolding servedAs ownRows dataBy storeBy tellRows moveRows rangeRows moved fetched alterRows
-sense-unseen f (Tells t) s n cdb out in′ sense = refl
-sense-unseen f (Moves Read) s n cdb out in′ sense = refl
-sense-unseen f (Moves Write) s n cdb out in′ sense = refl
-sense-unseen f (Moves Unmap) s n cdb out in′ sense = refl
-sense-unseen f (Alters a) s n cdb out in′ sense = refl
-sense-unseen f Unknown s n cdb out in′ sense = refl
-sense-unseen f Unlisted s n cdb out in′ sense = refl
-
-with-unseen : (f : Form) (s : Store) (n : ℕ) (cdb out in′ sense : List ℕ)
-    → servedWith f s (callOf n cdb out in′ []) ≡ servedWith f s (callOf n cdb out in′ sense)
-unfolding servedWith servedAs
-with-unseen f s n cdb out in′ sense = sense-unseen f (f .command) s n cdb out in′ sense
+-- an answer that returns no bytes and leaves the store
+refused-result : (a : Answer) (s : Store) (c : Call) → T (refuses a) → (bs : List ℕ) (done : Store)
+    → left (bare a (s .unit)) (s .pool .owners) (s .pool .medium) (c .dataIn) (senseAfter a (c .sense))
+    ≡ record { seen = seenOf a bs c; store = leaves a done s }
+unfolding seenOf leaves ifGoodBy refuses senseAfter
+refused-result Good s c t bs done = absurd t
+refused-result (Refused x) s c t bs done = refl
+refused-result Conflict s c t bs done = refl
+refused-result Unusable s c t bs done = refl
+refused-result Short s c t bs done = refl
 
 module _ (s : Store) (n : ℕ) (cdb out in′ sense : List ℕ) where
-  -- a call that is served
-  pub step-served : (r : Outcome) (owners medium dataIn sense′ : List ℕ) → readyFor s (callOf n cdb [] [] sense) ≡ true
-      → served r owners medium dataIn ≡ servedWith (formOf cdb) s (callOf n cdb out in′ []) → sense′ ≡ senseAfter (r .answer) sense
-      → left r owners medium dataIn sense′ ≡ step s (callOf n cdb out in′ sense)
-  unfolding readyFor
-  step-served r owners medium dataIn sense′ ready e h =
-      ap (λ (l : List ℕ). left r owners medium dataIn l) h
-      ∙ ap (λ (v : Served). sensed v sense) (e ∙ with-unseen (formOf cdb) s n cdb out in′ sense)
-      ∙ step-ready s (callOf n cdb out in′ sense) ready
+  step-refused : (a : Answer) → T (refuses a) → answerBy (entryOf cdb) s (callOf n cdb out in′ sense) ≡ a
+      → left (bare a (s .unit)) (s .pool .owners) (s .pool .medium) in′ (senseAfter a sense) ≡ step s (callOf n cdb out in′ sense)
+  unfolding step stepBy
+  step-refused a t e = rw e (refused-result a s (callOf n cdb out in′ sense) t _ _)
 
-  -- a call that is refused before its command is looked at
   pub step-unready : readyFor s (callOf n cdb [] [] sense) ≡ false
       → left (bare Unusable (s .unit)) (s .pool .owners) (s .pool .medium) in′ sense ≡ step s (callOf n cdb out in′ sense)
-  unfolding step stepBy seenOf readyFor ifGoodBy senseAfter refuses
-  step-unready e = rw (answer-unready (formOf cdb) s (callOf n cdb out in′ sense) e)
+  unfolding readyFor senseAfter refuses
+  step-unready h = step-refused Unusable tt (answer-unready (entryOf cdb) s (callOf n cdb out in′ sense) h)
 
--- ---- the CDB by itself
+  module _ (h : readyFor s (callOf n cdb [] [] sense) ≡ true) where
+    pub step-wrong : (a : Answer) (sense′ : List ℕ) → askedAt (entryOf cdb) (s .unit .rights) n cdb ≡ Wrong a → sense′ ≡ senseAfter a sense
+        → left (bare a (s .unit)) (s .pool .owners) (s .pool .medium) in′ sense′ ≡ step s (callOf n cdb out in′ sense)
+    unfolding readyFor
+    step-wrong a sense′ w k =
+        rw k
+        (step-refused a
+        (rw (← wrong-answer (entryOf cdb) (s .unit .rights) n cdb a w) (wrong-refused (entryOf cdb) (s .unit .rights) n cdb a w))
+        (answer-wrong (entryOf cdb) s (callOf n cdb out in′ sense) a h w))
 
--- the arms of a match beside GOOD refuse
-pub tag-refuses : (a : Answer) → OneOf (1 ∷ 2 ∷ 3 ∷ 4 ∷ []) (tagOf the-type a) → T (refuses a)
-unfolding refuses
-tag-refuses Good (inl e) = absurd (omega arith)
-tag-refuses Good (inr (inl e)) = absurd (omega arith)
-tag-refuses Good (inr (inr (inl e))) = absurd (omega arith)
-tag-refuses Good (inr (inr (inr e))) = absurd (omega arith)
-tag-refuses (Refused s) k = tt
-tag-refuses Conflict k = tt
-tag-refuses Unusable k = tt
-tag-refuses Short k = tt
+    -- ---- a command
 
-module _ (f : Form) (s : Store) (c : Call) where
-  -- a CDB that fails a test
-  pub form-refused : (a : Answer) → a ≡ first (formRows f (f .command) (c .cdb)) → T (refuses a)
-      → serving (plain a (c .dataIn)) s ≡ servedWith f s c
-  unfolding servedWith
-  form-refused a e t =
-      serves-refused a _ _ s (c .dataIn) t
-      ∙ ap (λ (x : Answer). serves x (dataBy f (f .command) s c) (storeBy f (f .command) s c) s (c .dataIn))
-      (sym (next-refuses a (first (ownRows f (f .command) s c)) t)
-      ∙ ap (λ (x : Answer). next x (first (ownRows f (f .command) s c))) e
-      ∙ sym (first-append (formRows f (f .command) (c .cdb)) (ownRows f (f .command) s c) (form-refusing f (f .command) (c .cdb))))
+    module _ (q : Request) (w : askedAt (entryOf cdb) (s .unit .rights) n cdb ≡ Asks q) where
+      -- at most 128 blocks are moved
+      pub asks-fits : Fits q
+      unfolding askedOf
+      asks-fits =
+          asked-fits cdb q (asks-request (entryOf cdb) (s .unit .rights) n cdb q w)
+          (stage-fields (entryOf cdb) (s .unit .rights) n cdb (asks-answer (entryOf cdb) (s .unit .rights) n cdb q w))
 
-  -- one that passes all
-  pub form-passed : first (formRows f (f .command) (c .cdb)) ≡ Good → servedBy f (f .command) s c ≡ servedWith f s c
-  unfolding servedWith servedBy
-  form-passed e =
-      ap (λ (x : Answer). serves x (dataBy f (f .command) s c) (storeBy f (f .command) s c) s (c .dataIn))
-      (sym
-      (first-append (formRows f (f .command) (c .cdb)) (ownRows f (f .command) s c) (form-refusing f (f .command) (c .cdb))
-      ∙ ap (λ (x : Answer). next x (first (ownRows f (f .command) s c))) e
-      ∙ next-good (first (ownRows f (f .command) s c))))
+      -- all that a call leaves, the sense with it
+      abbrev sensed : Served → Result
+      sensed v = record {
+        seen = record {
+          answer = v .reply .answer;
+          returned = v .reply .returned;
+          dataIn = v .reply .dataIn;
+          sense = senseAfter (v .reply .answer) sense;
+        };
+        store = v .store;
+      }
 
--- ---- the kind that a match has found
+      -- no command looks at the CDB or the sense buffer
+      unseen : (k : Command) → servedBy k q s (callOf n [] out in′ []) ≡ servedBy k q s (callOf n cdb out in′ sense)
+      unfolding servedBy commandRows commandStore tellRows moveRows moved alterRows
+      unseen (Tells t) = refl
+      unseen (Moves Read) = refl
+      unseen (Moves Write) = refl
+      unseen (Moves Unmap) = refl
+      unseen (Alters a) = refl
 
-pub rows-at : (f : Form) (k found : Command) (cdb : List ℕ) → k ≡ found → first (formRows f k cdb) ≡ Good → first (formRows f found cdb) ≡ Good
-rows-at f k found cdb e h = ap (λ (x : Command). first (formRows f x cdb)) (sym e) ∙ h
+      step-asks : sensed (servedBy (q .command) q s (callOf n cdb out in′ sense)) ≡ step s (callOf n cdb out in′ sense)
+      unfolding step stepBy seenOf servedBy serves replyOf dataBy storeBy readyFor
+      step-asks =
+          rw (answer-asks (entryOf cdb) s (callOf n cdb out in′ sense) q h w, asks-request (entryOf cdb) (s .unit .rights) n cdb q w)
 
-pub served-at : (f : Form) (k found : Command) (s : Store) (c : Call) (v : Served) → k ≡ found → v ≡ servedBy f found s c → v ≡ servedBy f k s c
-served-at f k found s c v e h = h ∙ ap (λ (x : Command). servedBy f x s c) (sym e)
+      pub step-served : (r : Outcome) (owners medium dataIn sense′ : List ℕ)
+          → served r owners medium dataIn ≡ servedBy (q .command) q s (callOf n [] out in′ []) → sense′ ≡ senseAfter (r .answer) sense
+          → left r owners medium dataIn sense′ ≡ step s (callOf n cdb out in′ sense)
+      step-served r owners medium dataIn sense′ e k =
+          ap (λ (l : List ℕ). left r owners medium dataIn l) k
+          ∙ ap sensed (e ∙ unseen (q .command))
+          ∙ step-asks

@@ -1,16 +1,21 @@
--- What the contracts of one call speak of: all that a command leaves.
+-- What the contracts of one call speak of: the request that the stages let pass, and all that a command leaves.
 -- Assumes nothing.
-use mathlib.Core.List.{_++_}
+use mathlib.Core.List.{List}
+use Prim.Native.Nat.{ℕ}
 use Rattle.answers.specs.declared.Answer.{Answer}
 use Rattle.answers.specs.declared.Answer.the-variants.{Unusable}
 use Rattle.answers.specs.Order.{first}
+use Rattle.rights.specs.declared.Rights.{Rights}
 use Rattle.rights.specs.declared.Decision.{Decision}
 use Rattle.forms.specs.declared.Command.{Command}
-use Rattle.forms.specs.declared.Form.{Form}
-use Rattle.forms.specs.Tests.{formRows}
+use Rattle.forms.specs.declared.Entry.{Entry}
+use Rattle.forms.specs.declared.Request.{Request}
+use Rattle.forms.specs.Forms.{askedIn}
+use Rattle.decoder.specs.declared.Decoded.{Decoded}
+use Rattle.decoder.specs.Decoding.{decoded}
 use Rattle.store.specs.declared.Unit.{Unit}
-use Rattle.store.specs.Store.{Store, Call}
-use Rattle.store.specs.Step.{ownRows, dataBy, storeBy}
+use Rattle.store.specs.Store.{Store, Call, withRights}
+use Rattle.store.specs.Step.{stageRows, commandRows, commandData, commandStore}
 use Rattle.store.specs.Fresh.{freshUnit}
 use Rattle.reply.specs.declared.Reply.{Reply}
 use Rattle.reply.specs.declared.Outcome.{Outcome}
@@ -27,21 +32,15 @@ bare answer unit = record { answer = answer; returned = 0; unit = unit }
 
 -- the outcome of a decision on the rights of a unit
 abbrev pub altersTo : Unit → Decision → Outcome
-altersTo u d = bare (d .answer) (record { capacity = u .capacity; rights = d .rights })
+altersTo u d = bare (d .answer) (withRights u (d .rights))
 
--- a command, after the tests of the CDB by itself
-unfoldable pub servedBy : Form → Command → Store → Call → Served
-servedBy f k s c = serves (first (ownRows f k s c)) (dataBy f k s c) (storeBy f k s c) s (c .dataIn)
+-- what the stages let pass
+unfoldable pub askedAt : Entry → Rights → ℕ → List ℕ → Decoded
+askedAt e r nexus cdb = decoded (first (stageRows e r nexus cdb)) (askedIn e cdb)
 
--- with them
-unfoldable pub servedWith : Form → Store → Call → Served
-servedWith f s c =
-    serves
-    (first (formRows f (f .command) (c .cdb) ++ ownRows f (f .command) s c))
-    (dataBy f (f .command) s c)
-    (storeBy f (f .command) s c)
-    s
-    (c .dataIn)
+-- a command, after the stages
+unfoldable pub servedBy : Command → Request → Store → Call → Served
+servedBy k q s c = serves (first (commandRows k q s c)) (commandData k q s) (commandStore k q s c) s (c .dataIn)
 
 -- ---- a fresh store that bad bounds refuse
 

@@ -1,12 +1,14 @@
-// One call to the store: the order of tests, and the command that a CDB asks for.
-mod serve;
+// One call to the store: the order of its tests, and the command that it asks for.
+mod act;
+mod stages;
 
 ghost use mathlib.Core.Path.{_≡_};
 ghost use Rattle.store.specs.Step.{step};
-ghost use Rattle.store.specs.Fresh.{fresh};
+ghost use Rattle.store.specs.Fresh.{freshUnit, fresh};
 ghost use Rattle.reply.specs.Contract.{storeOf, callOf, left, made};
 ghost use Rattle.commands.specs.Served.{unmade};
 use answers::Answer;
+use decoder::Decoded;
 use reply::Made;
 use reply::Outcome;
 use store::Unit;
@@ -16,7 +18,7 @@ pub fn execute(
     unit: Unit,
     owners: &mut [u64],
     medium: &mut [u8],
-    nexus: u8,
+    nexus: u64,
     cdb: &[u8],
     data_out: &[u8],
     data_in: &mut [u8],
@@ -27,25 +29,37 @@ pub fn execute(
         (storeOf unit (now (owners .entry)) (now (medium .entry)))
         (callOf nexus (now (cdb .entry)) (now («data_out» .entry)) (now («data_in» .entry)) (now (sense .entry))) ⌝ }
 {
-    if readiness::ready(unit, owners, medium, nexus, cdb, sense) {
-        let outcome = serve::serve(unit, owners, medium, nexus, cdb, data_out, data_in);
-        let answer = outcome.answer;
-        answers::put_sense(answer, sense);
-        outcome
-    } else {
-        serve::answered(Answer::Unusable, unit)
+    if !readiness::ready(unit, owners, medium, nexus, cdb, sense) {
+        return act::answered(Answer::Unusable, unit);
     }
+    let asked = stages::asked(unit, nexus, cdb);
+    match asked {
+        Decoded::Wrong(answer) => {
+            answers::put_sense(answer, sense);
+            act::answered(answer, unit)
+        }
+        Decoded::Asks(request) => {
+            let outcome = act::act(request, unit, owners, medium, nexus, data_out, data_in);
+            let answer = outcome.answer;
+            answers::put_sense(answer, sense);
+            outcome
+        }
+    }
+}
+
+// A unit without registration and reservation.
+fn fresh_unit(capacity: u64) -> Unit
+    ensures { λ r. ⌜ r ≡ freshUnit capacity ⌝ }
+{
+    let rights = reservations::standing::none();
+    Unit { capacity, rights }
 }
 
 // What bad bounds give: a unit without blocks, so that every call on it is refused.
 fn refused() -> Made
     ensures { λ r. ⌜ r ≡ unmade ⌝ }
 {
-    let rights = reservations::standing::none();
-    let unit = Unit {
-        capacity: 0,
-        rights,
-    };
+    let unit = fresh_unit(0);
     Made {
         answer: Answer::Unusable,
         unit,
@@ -63,8 +77,7 @@ pub fn fresh(capacity: u64, owners: &mut [u64]) -> Made
         return refused();
     }
     map::slots::free_all(owners);
-    let rights = reservations::standing::none();
-    let unit = Unit { capacity, rights };
+    let unit = fresh_unit(capacity);
     Made {
         answer: Answer::Good,
         unit,

@@ -29,11 +29,11 @@ pub fn calls_in(sheet: &[u8]) -> usize
 }
 
 // The nexus of call i, counted from 0.
-pub fn nexus_of(sheet: &[u8], i: usize) -> u8
+pub fn nexus_of(sheet: &[u8], i: usize) -> u64
     requires { ⌜ i < 256 ⌝ }
     ensures { λ r. ⌜ r ≡ nexusOf (now (sheet .entry)) i ⌝ }
 {
-    numbers::byte(sheet, 1 + 4 * i)
+    numbers::byte(sheet, 1 + 4 * i) as u64
 }
 
 // How many bytes the CDB of call i has.

@@ -1,1 +1,1 @@
-pub mod SoundLaws
+pub mod DecodingLaws

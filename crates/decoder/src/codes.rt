@@ -1,111 +1,188 @@
-// The row of each operation code and service action.
+// The table of commands: what each operation code and service action stand for.
 ghost use mathlib.Core.Path.{_≡_};
-ghost use Rattle.forms.specs.Forms.{span, absent, form, formFor};
+ghost use Rattle.forms.specs.Forms.{form, two, four, eight, listed, entryFor};
+ghost use Rattle.forms.specs.declared.Command.the-variants.{Moves, Alters};
+ghost use Rattle.forms.specs.declared.Span.the-variants.{Absent};
+ghost use Rattle.forms.specs.declared.Test.the-variants.{Nothing, Protection, Count, Scope, Kind};
+ghost use Rattle.forms.specs.declared.Service.the-variants.{Served, Other};
+use forms::Code;
 use forms::Command;
+use forms::Entry;
+use forms::Field;
 use forms::Form;
 use forms::Move;
+use forms::Service;
 use forms::Span;
 use forms::Tell;
+use forms::Test;
 use rights::Action;
 
-// A row with neither block address nor size.
-fn bare(command: Command, long: usize) -> Form
-    ensures { λ r. ⌜ r ≡ form command long absent absent ⌝ }
+// A line of the table.
+fn line(
+    long: usize,
+    command: Command,
+    address: Span,
+    size: Span,
+    first: Test,
+    second: Test,
+) -> Entry
+    ensures { λ r. ⌜ r ≡ listed long (Served (form command address size first second)) ⌝ }
 {
-    Form {
+    let form = Form {
         command,
-        long,
-        address: Span { at: 0, width: 0 },
-        size: Span { at: 0, width: 0 },
-    }
+        address,
+        size,
+        first,
+        second,
+    };
+    let service = Service::Served(form);
+    Entry::Listed(Code { long, service })
 }
 
-// A row with a size alone.
-fn sized(command: Command, long: usize, at: usize, width: usize) -> Form
-    ensures { λ r. ⌜ r ≡ form command long absent (span at width) ⌝ }
+// A command without field that can be wrong.
+fn plain(long: usize, command: Command, size: Span) -> Entry
+    ensures { λ r. ⌜ r ≡ listed long (Served (form command Absent size Nothing Nothing)) ⌝ }
 {
-    Form {
-        command,
+    line(
         long,
-        address: Span { at: 0, width: 0 },
-        size: Span { at, width },
-    }
+        command,
+        Span::Absent,
+        size,
+        Test::Nothing,
+        Test::Nothing,
+    )
+}
+
+// An action that changes who holds the reservation, and so names its scope and type.
+fn typed(action: Action) -> Entry
+    ensures { λ r. ⌜ r ≡ listed 10 (Served (form (Alters action) Absent (four 5) Scope Kind)) ⌝ }
+{
+    line(
+        10,
+        Command::Alters(action),
+        Span::Absent,
+        Span::At(Field::Four(5)),
+        Test::Scope,
+        Test::Kind,
+    )
 }
 
 // READ(10) and WRITE(10).
-fn transfer10(command: Command) -> Form
-    ensures { λ r. ⌜ r ≡ form command 10 (span 2 4) (span 7 2) ⌝ }
+fn transfer10(what: Move) -> Entry
+    ensures { λ r. ⌜ r ≡ listed 10 (Served (form (Moves what) (four 2) (two 7) Protection Count)) ⌝ }
 {
-    Form {
-        command,
-        long: 10,
-        address: Span { at: 2, width: 4 },
-        size: Span { at: 7, width: 2 },
-    }
+    line(
+        10,
+        Command::Moves(what),
+        Span::At(Field::Four(2)),
+        Span::At(Field::Two(7)),
+        Test::Protection,
+        Test::Count,
+    )
 }
 
 // READ(16) and WRITE(16).
-fn transfer16(command: Command) -> Form
-    ensures { λ r. ⌜ r ≡ form command 16 (span 2 8) (span 10 4) ⌝ }
+fn transfer16(what: Move) -> Entry
+    ensures { λ r. ⌜ r ≡ listed 16 (Served (form (Moves what) (eight 2) (four 10) Protection Count)) ⌝ }
 {
-    Form {
-        command,
-        long: 16,
-        address: Span { at: 2, width: 8 },
-        size: Span { at: 10, width: 4 },
-    }
+    line(
+        16,
+        Command::Moves(what),
+        Span::At(Field::Eight(2)),
+        Span::At(Field::Four(10)),
+        Test::Protection,
+        Test::Count,
+    )
+}
+
+// A listed code with a service action that is not.
+fn other(long: usize) -> Entry
+    ensures { λ r. ⌜ r ≡ listed long Other ⌝ }
+{
+    let service = Service::Other;
+    Entry::Listed(Code { long, service })
 }
 
 // PERSISTENT RESERVE IN.
-fn reserve_in(action: u8) -> Form
-    ensures { λ r. ⌜ r ≡ formFor 0x5E action ⌝ }
+fn reserve_in(action: u8) -> Entry
+    ensures { λ r. ⌜ r ≡ entryFor 0x5E action ⌝ }
 {
     match action {
-        0 => sized(Command::Tells(Tell::Keys), 10, 7, 2),
-        1 => sized(Command::Tells(Tell::Reservation), 10, 7, 2),
-        2..=255 => bare(Command::Unknown, 10),
+        0 => plain(10, Command::Tells(Tell::Keys), Span::At(Field::Two(7))),
+        1 => plain(
+            10,
+            Command::Tells(Tell::Reservation),
+            Span::At(Field::Two(7)),
+        ),
+        2..=255 => other(10),
     }
 }
 
 // PERSISTENT RESERVE OUT.
-fn reserve_out(action: u8) -> Form
-    ensures { λ r. ⌜ r ≡ formFor 0x5F action ⌝ }
+fn reserve_out(action: u8) -> Entry
+    ensures { λ r. ⌜ r ≡ entryFor 0x5F action ⌝ }
 {
     match action {
-        0 => sized(Command::Alters(Action::Register), 10, 5, 4),
-        1 => sized(Command::Alters(Action::Reserve), 10, 5, 4),
-        2 => sized(Command::Alters(Action::Release), 10, 5, 4),
-        3 => sized(Command::Alters(Action::Clear), 10, 5, 4),
-        4 => sized(Command::Alters(Action::Preempt), 10, 5, 4),
-        6 => sized(Command::Alters(Action::RegisterIgnoring), 10, 5, 4),
-        5 | 7..=255 => bare(Command::Unknown, 10),
+        0 => plain(
+            10,
+            Command::Alters(Action::Register),
+            Span::At(Field::Four(5)),
+        ),
+        1 => typed(Action::Reserve),
+        2 => typed(Action::Release),
+        3 => plain(10, Command::Alters(Action::Clear), Span::At(Field::Four(5))),
+        4 => typed(Action::Preempt),
+        6 => plain(
+            10,
+            Command::Alters(Action::RegisterIgnoring),
+            Span::At(Field::Four(5)),
+        ),
+        5 | 7..=255 => other(10),
     }
 }
 
 // READ CAPACITY(16).
-fn capacity16(action: u8) -> Form
-    ensures { λ r. ⌜ r ≡ formFor 0x9E action ⌝ }
+fn capacity16(action: u8) -> Entry
+    ensures { λ r. ⌜ r ≡ entryFor 0x9E action ⌝ }
 {
     match action {
-        0x10 => sized(Command::Tells(Tell::Capacity16), 16, 10, 4),
-        0x00..=0x0F | 0x11..=0xFF => bare(Command::Unknown, 16),
+        0x10 => plain(
+            16,
+            Command::Tells(Tell::Capacity16),
+            Span::At(Field::Four(10)),
+        ),
+        0x00..=0x0F | 0x11..=0xFF => other(16),
     }
 }
 
-pub fn form_for(code: u8, action: u8) -> Form
-    ensures { λ r. ⌜ r ≡ formFor code action ⌝ }
+pub fn entry_for(code: u8, action: u8) -> Entry
+    ensures { λ r. ⌜ r ≡ entryFor code action ⌝ }
 {
     match code {
-        0x00 => bare(Command::Tells(Tell::Ready), 6),
-        0x12 => sized(Command::Tells(Tell::Inquiry), 6, 3, 2),
-        0x25 => bare(Command::Tells(Tell::Capacity10), 10),
-        0x28 => transfer10(Command::Moves(Move::Read)),
-        0x2A => transfer10(Command::Moves(Move::Write)),
-        0x42 => sized(Command::Moves(Move::Unmap), 10, 7, 2),
+        0x00 => plain(6, Command::Tells(Tell::Ready), Span::Absent),
+        0x12 => line(
+            6,
+            Command::Tells(Tell::Inquiry),
+            Span::Absent,
+            Span::At(Field::Two(3)),
+            Test::VitalData,
+            Test::Page,
+        ),
+        0x25 => plain(10, Command::Tells(Tell::Capacity10), Span::Absent),
+        0x28 => transfer10(Move::Read),
+        0x2A => transfer10(Move::Write),
+        0x42 => line(
+            10,
+            Command::Moves(Move::Unmap),
+            Span::Absent,
+            Span::At(Field::Two(7)),
+            Test::Anchor,
+            Test::Nothing,
+        ),
         0x5E => reserve_in(action),
         0x5F => reserve_out(action),
-        0x88 => transfer16(Command::Moves(Move::Read)),
-        0x8A => transfer16(Command::Moves(Move::Write)),
+        0x88 => transfer16(Move::Read),
+        0x8A => transfer16(Move::Write),
         0x9E => capacity16(action),
         0x01..=0x11
         | 0x13..=0x24
@@ -116,6 +193,6 @@ pub fn form_for(code: u8, action: u8) -> Form
         | 0x60..=0x87
         | 0x89
         | 0x8B..=0x9D
-        | 0x9F..=0xFF => bare(Command::Unlisted, 0),
+        | 0x9F..=0xFF => Entry::Unlisted,
     }
 }

@@ -1,70 +1,137 @@
-// Decoding a CDB: its row of the table, the fields that the row names, and whether they are right.
+// Decoding a CDB, once: what the table has for it, whether its fields are right, and the request that it makes.
 ghost use mathlib.Core.Path.{_≡_};
-ghost use Prim.Native.Nat.{_<_, _^_};
+ghost use Prim.Native.Nat.{_≤_};
 ghost use Rattle.answers.specs.Order.{first};
-ghost use Rattle.forms.specs.Forms.{formOf, addressOf, sizeOf, action};
-ghost use Rattle.decoder.specs.Sound.{Sound};
-ghost use Rattle.forms.specs.Tests.{formRows};
+ghost use Rattle.rights.specs.Rights.{isType};
+ghost use Rattle.forms.specs.Forms.{action, entryOf, fieldNumber, number, requestBy, asks, askedBy};
+ghost use Rattle.forms.specs.Tests.{wrong, testRows, codeFieldRows};
+ghost use Rattle.decoder.specs.Decoding.{decoded};
 use answers::Answer;
+use fields::numbers;
+use forms::Code;
+use forms::Entry;
+use forms::Field;
 use forms::Form;
+use forms::Request;
+use forms::Service;
+use forms::Span;
+use forms::Test;
 use pool::Lba;
+use pool::MOST_TRANSFER;
 
 mod codes;
-mod tests;
 
-// The service action of a CDB: byte 1 bits 4-0.
-fn action_of(cdb: &[u8]) -> u8
-    ensures { λ r. ⌜ r ≡ action (now (cdb .entry)) ⌝ }
-{
-    fields::numbers::byte(cdb, 1) % 32
+// A request, or the answer that refuses it.
+pub enum Decoded {
+    Asks(Request),
+    Wrong(Answer),
 }
 
-// The row of a CDB.
-pub fn form_of(cdb: &[u8]) -> Form
-    ensures { λ r. ⌜ r ≡ formOf (now (cdb .entry)) ⌝ }
+// What the table has for a CDB.
+pub fn entry_of(cdb: &[u8]) -> Entry
+    ensures { λ r. ⌜ r ≡ entryOf (now (cdb .entry)) ⌝ }
 {
-    let code = fields::numbers::byte(cdb, 0);
-    let action = action_of(cdb);
-    codes::form_for(code, action)
+    let code = numbers::byte(cdb, 0);
+    let action = numbers::byte(cdb, 1) % 32;
+    codes::entry_for(code, action)
 }
 
-// The block address; 0 where the row has none.
-pub fn address(form: Form, cdb: &[u8]) -> Lba
-    requires { ⌜ Sound form ⌝ }
-    ensures { λ r. ⌜ r .0 ≡ addressOf form (now (cdb .entry)) ⌝ }
+fn field_number(field: Field, cdb: &[u8]) -> u64
+    ensures { λ r. ⌜ r ≡ fieldNumber field (now (cdb .entry)) ⌝ }
 {
-    let span = form.address;
-    let at = span.at;
-    let width = span.width;
-    Lba(fields::numbers::number(cdb, at, width))
+    match field {
+        Field::Two(at) => numbers::number(cdb, at as usize, 2),
+        Field::Four(at) => numbers::number(cdb, at as usize, 4),
+        Field::Eight(at) => numbers::number(cdb, at as usize, 8),
+    }
 }
 
-// The count of blocks, the allocation length or the list length; 0 where the row has none.
-pub fn size(form: Form, cdb: &[u8]) -> u64
-    requires { ⌜ Sound form ⌝ }
-    ensures { λ r. ⌜ (r ≡ sizeOf form (now (cdb .entry))) × (r < 2 ^ 32) ⌝ }
+// The number that stands there; 0 where there is none.
+fn number_at(span: Span, cdb: &[u8]) -> u64
+    ensures { λ r. ⌜ r ≡ number span (now (cdb .entry)) ⌝ }
 {
-    let span = form.size;
-    let at = span.at;
-    let width = span.width;
-    fields::numbers::number(cdb, at, width)
+    match span {
+        Span::Absent => 0,
+        Span::At(field) => field_number(field, cdb),
+    }
 }
 
-// The first test of the CDB by itself that it fails, and GOOD where it passes all.
-pub fn refusal(form: Form, cdb: &[u8]) -> Answer
-    requires { ⌜ Sound form ⌝ }
-    ensures { λ r. ⌜ r ≡ first (formRows form (form .command) (now (cdb .entry))) ⌝ }
+fn request_of(form: Form, cdb: &[u8]) -> Request
+    ensures { λ r. ⌜ r ≡ requestBy form (now (cdb .entry)) ⌝ }
 {
     let command = form.command;
-    if tests::is_unlisted(command) {
-        return answers::not_listed();
+    let span = form.address;
+    let address = Lba(number_at(span, cdb));
+    let span = form.size;
+    let size = number_at(span, cdb);
+    let kind = (numbers::byte(cdb, 2) % 16) as u32;
+    Request {
+        command,
+        address,
+        size,
+        kind,
     }
-    let long = form.long;
-    if cdb.len() != long {
-        return Answer::Unusable;
+}
+
+// One of the six types of a reservation.
+fn is_type(kind: u8) -> bool
+    ensures { λ r. ⌜ r ≡ isType kind ⌝ }
+{
+    match kind {
+        1 => true,
+        3 => true,
+        5 => true,
+        6 => true,
+        7 => true,
+        8 => true,
+        0..=255 => false,
     }
-    if tests::naca(long, cdb) {
-        return answers::invalid_field();
+}
+
+// Whether a field is wrong, where `size` is the count, allocation length or list length.
+fn is_wrong(test: Test, size: u64, cdb: &[u8]) -> bool
+    ensures { λ r. ⌜ r ≡ wrong test size (now (cdb .entry)) ⌝ }
+{
+    match test {
+        Test::Nothing => false,
+        Test::VitalData => numbers::bit(numbers::byte(cdb, 1), 0),
+        Test::Page => !(numbers::byte(cdb, 2) == 0),
+        Test::Protection => 32 <= numbers::byte(cdb, 1),
+        Test::Count => (MOST_TRANSFER as u64) < size,
+        Test::Anchor => numbers::bit(numbers::byte(cdb, 1), 0),
+        Test::Scope => 16 <= numbers::byte(cdb, 2),
+        Test::Kind => !is_type(numbers::byte(cdb, 2) % 16),
     }
-    tests::fields(form, command, cdb)
+}
+
+// The request of a row whose fields are right.
+fn tested(form: Form, cdb: &[u8]) -> Decoded
+    ensures { λ r. ⌜ r ≡ decoded (first (testRows form (now (cdb .entry)))) (asks (requestBy form (now (cdb .entry)))) ⌝ }
+{
+    let request = request_of(form, cdb);
+    let first = form.first;
+    if is_wrong(first, request.size, cdb) {
+        return Decoded::Wrong(answers::invalid_field());
+    }
+    let second = form.second;
+    if is_wrong(second, request.size, cdb) {
+        return Decoded::Wrong(answers::invalid_field());
+    }
+    Decoded::Asks(request)
+}
+
+// The request of a CDB as long as its code has it: the control byte, then the fields of its row.
+pub fn request(code: Code, cdb: &[u8]) -> Decoded
+    requires { ⌜ 1 ≤ code .long ⌝ }
+    ensures { λ r. ⌜ r ≡ decoded (first (codeFieldRows code (now (cdb .entry)))) (askedBy (code .service) (now (cdb .entry))) ⌝ }
+{
+    let control = numbers::byte(cdb, code.long - 1);
+    if numbers::bit(control, 2) {
+        return Decoded::Wrong(answers::invalid_field());
+    }
+    let service = code.service;
+    match service {
+        Service::Served(form) => tested(form, cdb),
+        Service::Other => Decoded::Wrong(answers::invalid_field()),
+    }
 }

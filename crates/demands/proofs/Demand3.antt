@@ -1,17 +1,17 @@
 -- Demand 3, proved of `step`: what a nexus learns that is shut out from reading.
 -- Assumes nothing.
-use mathlib.Core.Path.{_≡_, refl, sym, ap, ap₂, _∙_, subst}
+use mathlib.Core.Path.{_≡_, refl, sym, ap, ap₂, _∙_}
 use mathlib.Core.Bool.{Bool, true, false, not}
 use mathlib.Core.List.{List, [], _∷_}
 use Prim.Native.Nat.{ℕ, zero, suc}
 use lib.Dec.{T, eqb, eqb·suc-zero}
 use Rattle.fields.specs.Bytes.{zeros}
 use Rattle.fields.specs.Field.{byte}
-use Rattle.fields.proofs.Tests.{and-map, or-l, or-other, nor-l, not-not-intro, not-map, true→T, false→T, T-true}
+use Rattle.fields.proofs.Tests.{and-map, or-l, or-other, nor-l, not-not-intro, not-map, test, true→T, false→T, T-true}
 use Rattle.answers.specs.declared.Answer.{Answer}
 use Rattle.answers.specs.declared.Answer.the-variants.{Good, Refused, Conflict, Unusable, Short}
-use Rattle.answers.specs.Order.{first, ifGood, ifGoodBy, refuses}
-use Rattle.answers.proofs.OrderLaws.{row-stop, if-refused}
+use Rattle.answers.specs.Order.{first, ifGoodBy, refuses}
+use Rattle.answers.proofs.OrderLaws.{not-good}
 use Rattle.pool.specs.Valid.{slotsOk}
 use Rattle.pool.proofs.Keeping.{poolOk-of, mapOk-zeros}
 use Rattle.rights.specs.declared.Rights.{Rights}
@@ -19,22 +19,18 @@ use Rattle.rights.specs.declared.Access.{Access}
 use Rattle.rights.specs.declared.Access.the-variants.{Reads, Writes}
 use Rattle.rights.specs.Rights.{isOneOf}
 use Rattle.rights.specs.Conflict.{passes, stops, conflict, shutOut}
-use Rattle.rights.specs.Actions.{acted}
-use Rattle.forms.specs.declared.Move.{Move}
 use Rattle.forms.specs.declared.Command.{Command}
-use Rattle.forms.specs.declared.Command.the-variants.{Tells, Moves, Alters, Unknown, Unlisted}
-use Rattle.forms.specs.declared.Form.{Form}
-use Rattle.forms.specs.Forms.{formOf}
-use Rattle.forms.proofs.Table.{isMoves, isAlters, alters-code, moves-code}
+use Rattle.forms.specs.declared.Command.the-variants.{Tells, Moves, Alters}
+use Rattle.forms.specs.Forms.{Asked, nothing, asks, askedOf}
+use Rattle.forms.proofs.Table.{isMoves, movesIn, altersIn, alters-code, moves-code}
 use Rattle.store.specs.declared.Unit.{Unit}
 use Rattle.store.specs.Store.{Store, Call, Seen, usable, seenOf}
-use Rattle.store.specs.Tell.{told, tellRows}
-use Rattle.store.specs.Move.{access, moveRows}
-use Rattle.store.specs.Alter.{parametersOf, alterRows}
-use Rattle.store.specs.Step.{ownRows, answerBy, dataBy, storeBy, stepBy, step}
+use Rattle.store.specs.Move.{access}
+use Rattle.store.specs.Step.{guarded, guardRows, ownRows, dataBy, storeBy, step, answerTo}
+use Rattle.store.proofs.Parts.{guardAnswer, guard-refused, answers-alike}
+use Rattle.store.proofs.StoreLaws.{guard-stops, step-seen, step-store, step-ways, leaves-both, unit-rows, unit-data, unit-by, unit-left, pool-left, store-left}
 use Rattle.demands.specs.History.{after, isOut, isShutOut, kept, add, watched, heard}
 use Rattle.demands.specs.Demands.{Demand3}
-use Rattle.demands.proofs.Parts.{answerAs, own-refused, own-decides, either-store}
 use Rattle.demands.proofs.Usable.{usable-unit, usable-of, usable-stays}
 
 -- ---- a refusal tells nothing
@@ -59,115 +55,75 @@ shut-all : (r : Rights) (n : ℕ) (a : Access) → T (shutOut r n) → T (confli
 unfolding shutOut conflict
 shut-all r n a t = and-map (stops (r .kind) Reads) (stops (r .kind) a) (not (passes r n)) (not (passes r n)) (stops-all (r .kind) a) (λ h. h) t
 
--- a guarded call by a nexus that is shut out meets the conflict
-move-stops : (f : Form) (m : Move) (s : Store) (c : Call) → T (isShutOut s c) → first (ownRows f (Moves m) s c) ≡ Conflict
-unfolding ownRows moveRows isShutOut
-move-stops f m s c h = row-stop Conflict _ _ (T-true _ (shut-all (s .unit .rights) (c .nexus) (access m) h))
+-- a command on the blocks from a nexus that is shut out meets the conflict
+guarded-shut : (k : Command) (r : Rights) (n : ℕ) → T (isMoves k) → T (shutOut r n) → T (guarded k r n)
+unfolding guarded isMoves
+guarded-shut (Tells x) r n m h = absurd m
+guarded-shut (Moves x) r n m h = shut-all r n (access x) h
+guarded-shut (Alters x) r n m h = absurd m
 
-move-refused : (f : Form) (m : Move) (s : Store) (c : Call) → T (isShutOut s c) → T (refuses (answerAs f (Moves m) s c))
-unfolding refuses
-move-refused f m s c h = own-refused f (Moves m) s c (subst (λ (a : Answer). T (refuses a)) (sym (move-stops f m s c h)) tt)
+guard-shut : (x : Asked) (r : Rights) (n : ℕ) → T (movesIn x) → T (shutOut r n) → first (guardRows x r n) ≡ Conflict
+unfolding movesIn
+guard-shut nothing r n m h = absurd m
+guard-shut (asks q) r n m h = guard-stops q r n (T-true _ (guarded-shut (q .command) r n m h))
 
--- ---- by the kind of a command; `h`: if it moves something, its caller is shut out
+shut-guard : (s : Store) (c : Call) → T (movesIn (askedOf (c .cdb))) → T (isShutOut s c) → T (refuses (guardAnswer (s .unit) c))
+unfolding isShutOut refuses
+shut-guard s c m h = rw (guard-shut (askedOf (c .cdb)) (s .unit .rights) (c .nexus) m h) tt
 
-module _ (f : Form) (s t : Store) (c : Call) (e : s .unit ≡ t .unit) where
-  own-same : (k : Command) → (T (isMoves k) → T (isShutOut s c)) → first (ownRows f k s c) ≡ first (ownRows f k t c)
-  unfolding ownRows isMoves isShutOut
-  own-same (Tells x) h = ap (λ (u : Unit). first (tellRows f x u c)) e
-  own-same (Moves m) h = move-stops f m s c (h tt) ∙ sym (move-stops f m t c (subst (λ (u : Unit). T (shutOut (u .rights) (c .nexus))) e (h tt)))
-  own-same (Alters a) h = ap (λ (u : Unit). first (alterRows f a (u .rights) c)) e
-  own-same Unknown h = refl
-  own-same Unlisted h = refl
+shut-refused : (s : Store) (c : Call) → T (movesIn (askedOf (c .cdb))) → T (isShutOut s c) → T (refuses (answerTo s c))
+shut-refused s c m h = guard-refused s c (shut-guard s c m h)
 
-  seen-same : (k : Command) (a : Answer) → (T (isMoves k) → T (isShutOut s c)) → a ≡ answerAs f k s c
-      → seenOf a (dataBy f k s c) c ≡ seenOf a (dataBy f k t c) c
-  unfolding dataBy isMoves
-  seen-same (Tells x) a h w = ap (λ (u : Unit). seenOf a (told f x u (c .cdb)) c) e
-  seen-same (Moves m) a h w = seen-refused a _ _ c (subst (λ (x : Answer). T (refuses x)) (sym w) (move-refused f m s c (h tt)))
-  seen-same (Alters x) a h w = refl
-  seen-same Unknown a h w = refl
-  seen-same Unlisted a h w = refl
+-- ---- which calls move and alter, by their code
 
-  unit-done : (k : Command) → storeBy f k s c .unit ≡ storeBy f k t c .unit
-  unfolding storeBy
-  unit-done (Tells x) = e
-  unit-done (Moves m) = e
-  unit-done (Alters a) =
-      ap (λ (u : Unit). record { capacity = u .capacity; rights = acted a (u .rights) (c .nexus) (parametersOf (c .cdb) (c .dataOut)) }) e
-  unit-done Unknown = e
-  unit-done Unlisted = e
-
-  unit-same : (k : Command) (a : Answer) → ifGood a (storeBy f k s c) s .unit ≡ ifGood a (storeBy f k t c) t .unit
-  unfolding ifGoodBy refuses
-  unit-same k Good = unit-done k
-  unit-same k (Refused n) = e
-  unit-same k Conflict = e
-  unit-same k Unusable = e
-  unit-same k Short = e
-
-unit-left : (f : Form) (k : Command) (s : Store) (c : Call) → T (not (isAlters k)) → storeBy f k s c .unit ≡ s .unit
-unfolding storeBy isAlters
-unit-left f (Tells x) s c h = refl
-unit-left f (Moves m) s c h = refl
-unit-left f (Alters a) s c h = absurd h
-unit-left f Unknown s c h = refl
-unit-left f Unlisted s c h = refl
-
-pool-left : (f : Form) (k : Command) (s : Store) (c : Call) → T (not (isMoves k)) → storeBy f k s c .pool ≡ s .pool
-unfolding storeBy isMoves
-pool-left f (Tells x) s c h = refl
-pool-left f (Moves m) s c h = absurd h
-pool-left f (Alters a) s c h = refl
-pool-left f Unknown s c h = refl
-pool-left f Unlisted s c h = refl
-
-store-left : (f : Form) (k : Command) (s : Store) (c : Call) → T (not (isAlters k)) → T (isShutOut s c)
-    → ifGood (answerAs f k s c) (storeBy f k s c) s ≡ s
-unfolding storeBy isAlters
-store-left f (Tells x) s c h o = either-store (λ x. x ≡ s) (answerAs f (Tells x) s c) s s refl refl
-store-left f (Moves m) s c h o = if-refused _ _ s (move-refused f m s c o)
-store-left f (Alters a) s c h o = absurd h
-store-left f Unknown s c h o = either-store (λ x. x ≡ s) (answerAs f Unknown s c) s s refl refl
-store-left f Unlisted s c h o = either-store (λ x. x ≡ s) (answerAs f Unlisted s c) s s refl refl
-
--- ---- one call
-
-out-moves-not : (c : Call) → T (isOut c) → T (not (isMoves (formOf (c .cdb) .command)))
+out-moves-not : (c : Call) → T (isOut c) → T (not (movesIn (askedOf (c .cdb))))
 unfolding isOut
 out-moves-not c o =
-    not-map (not (eqb (byte 0 (c .cdb)) 0x5F)) (isMoves (formOf (c .cdb) .command)) (moves-code (c .cdb)) (not-not-intro (eqb (byte 0 (c .cdb)) 0x5F) o)
+    not-map (not (eqb (byte 0 (c .cdb)) 0x5F)) (movesIn (askedOf (c .cdb))) (moves-code (c .cdb)) (not-not-intro (eqb (byte 0 (c .cdb)) 0x5F) o)
 
-other-alters-not : (c : Call) → T (not (isOut c)) → T (not (isAlters (formOf (c .cdb) .command)))
+other-alters-not : (c : Call) → T (not (isOut c)) → T (not (altersIn (askedOf (c .cdb))))
 unfolding isOut
-other-alters-not c o = not-map (eqb (byte 0 (c .cdb)) 0x5F) (isAlters (formOf (c .cdb) .command)) (alters-code (c .cdb)) o
+other-alters-not c o = not-map (eqb (byte 0 (c .cdb)) 0x5F) (altersIn (askedOf (c .cdb))) (alters-code (c .cdb)) o
 
 not-out : (s : Store) (c : Call) → T (not (kept s c)) → T (not (isOut c))
 unfolding kept
 not-out s c t = nor-l (isOut c) (isShutOut s c) t
 
 -- a kept call that moves something is one by a nexus that is shut out
-kept-shut : (s : Store) (c : Call) → T (kept s c) → T (isMoves (formOf (c .cdb) .command)) → T (isShutOut s c)
+kept-shut : (s : Store) (c : Call) → T (kept s c) → T (movesIn (askedOf (c .cdb))) → T (isShutOut s c)
 unfolding kept isOut
 kept-shut s c t m = or-other (eqb (byte 0 (c .cdb)) 0x5F) (isShutOut s c) (moves-code (c .cdb) m) t
 
+-- ---- one call
+
+-- a call whose command moves nothing, or is refused, gives the same on two stores that agree on the unit's record
 module _ (s t : Store) (c : Call) (u : T (usable s)) (v : T (usable t)) (e : s .unit ≡ t .unit) (h : T (kept s c)) where
-  same-answer : answerBy (formOf (c .cdb)) s c ≡ answerBy (formOf (c .cdb)) t c
-  unfolding answerBy
-  same-answer = own-decides (formOf (c .cdb)) (formOf (c .cdb) .command) s t c u v (own-same (formOf (c .cdb)) s t c e (formOf (c .cdb) .command) (kept-shut s c h))
+  own-same : guardAnswer (s .unit) c ≡ Good → first (ownRows (askedOf (c .cdb)) s c) ≡ first (ownRows (askedOf (c .cdb)) t c)
+  own-same g =
+      test (movesIn (askedOf (c .cdb)))
+      (λ m. not-good (guardAnswer (s .unit) c) (shut-guard s c m (kept-shut s c h m)) g)
+      (λ n. ap first (unit-rows (askedOf (c .cdb)) s t c n e))
+
+  same-answer : answerTo s c ≡ answerTo t c
+  same-answer = answers-alike s t c u v e own-same
+
+  seen-same : seenOf (answerTo s c) (dataBy (askedOf (c .cdb)) s) c ≡ seenOf (answerTo s c) (dataBy (askedOf (c .cdb)) t) c
+  seen-same =
+      test (movesIn (askedOf (c .cdb)))
+      (λ m. seen-refused (answerTo s c) _ _ c (shut-refused s c m (kept-shut s c h m)))
+      (λ n. ap (λ (bs : List ℕ). seenOf (answerTo s c) bs c) (unit-data (askedOf (c .cdb)) s t n e))
 
   -- a kept call gives the same on two stores that agree on the unit
   pub kept-seen : step s c .seen ≡ step t c .seen
-  unfolding step stepBy answerBy
   kept-seen =
-      seen-same (formOf (c .cdb)) s t c e (formOf (c .cdb) .command) (answerBy (formOf (c .cdb)) s c) (kept-shut s c h) refl
-      ∙ ap (λ (a : Answer). seenOf a (dataBy (formOf (c .cdb)) (formOf (c .cdb) .command) t c) c) same-answer
+      step-seen s c ∙ seen-same ∙ ap (λ (a : Answer). seenOf a (dataBy (askedOf (c .cdb)) t) c) same-answer ∙ sym (step-seen t c)
 
   -- and leaves them so
   pub kept-unit : after step s c .unit ≡ after step t c .unit
-  unfolding step stepBy after
+  unfolding after
   kept-unit =
-      unit-same (formOf (c .cdb)) s t c e (formOf (c .cdb) .command) (answerBy (formOf (c .cdb)) s c)
-      ∙ ap (λ (a : Answer). ifGood a (storeBy (formOf (c .cdb)) (formOf (c .cdb) .command) t c) t .unit) same-answer
+      rw (step-store s c, step-store t c, same-answer)
+      (leaves-both (λ x y. x .unit ≡ y .unit) (answerTo t c) (storeBy (askedOf (c .cdb)) s c) s (storeBy (askedOf (c .cdb)) t c) t (unit-by (askedOf (c .cdb)) s t c e) e)
 
 -- a reservation-out call acts on the unit alone, by the call alone
 pub out-seen : (s t : Store) (c : Call) → T (usable s) → T (usable t) → s .unit ≡ t .unit → T (isOut c) → step s c .seen ≡ step t c .seen
@@ -181,20 +137,22 @@ out-unit s t c u v e o = kept-unit s t c u v e (or-l (isOut c) (isShutOut s c) o
 
 -- any call but a reservation-out leaves the unit
 pub other-unit : (s : Store) (c : Call) → T (not (isOut c)) → after step s c .unit ≡ s .unit
-unfolding step stepBy after
-other-unit s c o =
-    either-store (λ x. x .unit ≡ s .unit) (answerBy (formOf (c .cdb)) s c) s _ (unit-left (formOf (c .cdb)) (formOf (c .cdb) .command) s c (other-alters-not c o)) refl
+unfolding after
+other-unit s c o = step-ways (λ x. x .unit ≡ s .unit) s c (λ g. unit-left (askedOf (c .cdb)) s c (other-alters-not c o)) refl
 
 -- "Apart from reservation-out calls, a shut-out call changes no stored thing"
 pub shut-out-still : (s : Store) (c : Call) → T (not (isOut c)) → T (isShutOut s c) → after step s c ≡ s
-unfolding step stepBy after answerBy
-shut-out-still s c o h = store-left (formOf (c .cdb)) (formOf (c .cdb) .command) s c (other-alters-not c o) h
+unfolding after
+shut-out-still s c o h =
+    step-ways (λ x. x ≡ s) s c
+    (λ g. test (movesIn (askedOf (c .cdb)))
+    (λ m. not-good (answerTo s c) (shut-refused s c m h) g)
+    (λ n. store-left (askedOf (c .cdb)) s c (other-alters-not c o) n)) refl
 
 -- "a reservation-out call never changes a block or a mapping"
 pub out-pool : (s : Store) (c : Call) → T (isOut c) → after step s c .pool ≡ s .pool
-unfolding step stepBy after
-out-pool s c o =
-    either-store (λ x. x .pool ≡ s .pool) (answerBy (formOf (c .cdb)) s c) s _ (pool-left (formOf (c .cdb)) (formOf (c .cdb) .command) s c (out-moves-not c o)) refl
+unfolding after
+out-pool s c o = step-ways (λ x. x .pool ≡ s .pool) s c (λ g. pool-left (askedOf (c .cdb)) s c (out-moves-not c o)) refl
 
 -- ---- histories
 

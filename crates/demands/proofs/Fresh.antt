@@ -4,25 +4,22 @@ use mathlib.Core.Path.{_≡_, refl, ap, _∙_}
 use mathlib.Core.Bool.{Bool, true, false, not, _&&_}
 use mathlib.Core.List.{List, [], _∷_}
 use Prim.Native.Nat.{ℕ, _*_}
-use lib.Dec.{T, eqb, ltb}
+use lib.Dec.{T}
 use lib.ListN.{length}
-use Rattle.fields.proofs.Tests.{T-true}
 use Rattle.fields.specs.Bytes.{zeros}
 use Rattle.fields.proofs.BytesLaws.{length-zeros}
 use Rattle.answers.specs.declared.Answer.{Answer}
 use Rattle.answers.specs.declared.Answer.the-variants.{Good, Unusable}
-use Rattle.answers.specs.Order.{_if_, first, next, ifGood, firstOf, ifGoodBy, nextBy, refuses}
-use Rattle.answers.proofs.OrderLaws.{row-stop}
+use Rattle.answers.specs.Order.{_if_, first, ifGood, firstOf, ifGoodBy, refuses}
 use Rattle.pool.specs.Valid.{capacityOk, slotsOk}
 use Rattle.pool.proofs.Keeping.{poolOk-of, mapOk-zeros}
 use Rattle.rights.specs.Places.{used, registered}
 use Rattle.rights.specs.Rights.{noRights, placeOk, placesApart, placesOk, stands, rightsOk}
-use Rattle.forms.specs.Forms.{formOf}
-use Rattle.forms.specs.Tests.{formRows}
-use Rattle.store.specs.Store.{Store, Call, usable, seenOf}
-use Rattle.store.specs.Step.{callRows, storeRows, ownRows, answerBy, stepBy, step}
+use Rattle.store.specs.Store.{Store, Call, usable}
+use Rattle.store.specs.Step.{step}
+use Rattle.store.proofs.Parts.{unusable-answer}
+use Rattle.store.proofs.StoreLaws.{step-answer}
 use Rattle.store.specs.Fresh.{freshUnit, freshAnswer, fresh, freshStore}
-use Rattle.demands.proofs.Parts.{parts}
 use Rattle.demands.proofs.Usable.{unit-of, usable-of}
 
 -- ---- making one
@@ -71,24 +68,6 @@ fresh-usable capacity slots medium b s e =
 
 -- ---- on no other
 
-call-eleven : (c : Call) → next (first (callRows c)) Unusable ≡ Unusable
-unfolding callRows firstOf nextBy refuses
-call-eleven c = go (ltb 15 (c .nexus)) (eqb (length (c .cdb)) 0) (ltb (length (c .sense)) 18)
-  where
-    go : (x y z : Bool) → next (first (Unusable if x ∷ Unusable if y ∷ Unusable if z ∷ [])) Unusable ≡ Unusable
-    go true y z = refl
-    go false true z = refl
-    go false false true = refl
-    go false false false = refl
-
-store-eleven : (s : Store) → T (not (usable s)) → first (storeRows s) ≡ Unusable
-unfolding storeRows
-store-eleven s t = row-stop Unusable _ _ (T-true (not (usable s)) t)
-
 -- "11 … slots or capacity out of bounds, medium not 512 x slots bytes, invalid state"
 pub unusable-eleven : (s : Store) (c : Call) → T (not (usable s)) → step s c .seen .answer ≡ Unusable
-unfolding step stepBy seenOf answerBy nextBy refuses
-unusable-eleven s c t =
-    parts (formOf (c .cdb)) (formOf (c .cdb) .command) s c
-    ∙ ap (λ (a : Answer). next (first (callRows c)) (next a (next (first (formRows (formOf (c .cdb)) (formOf (c .cdb) .command) (c .cdb))) (first (ownRows (formOf (c .cdb)) (formOf (c .cdb) .command) s c))))) (store-eleven s t)
-    ∙ call-eleven c
+unusable-eleven s c t = step-answer s c ∙ unusable-answer s c t

@@ -1,5 +1,4 @@
 pub mod Computing
-pub mod Parts
 pub mod Usable
 pub mod Fresh
 pub mod Demand1

@@ -1,45 +1,45 @@
 -- Slots do not matter: two stores that agree on the unit's record, on what every block reads, on which blocks are mapped and on the number of free
 -- slots answer every call alike, stay so, and therefore answer alike for ever. Which slot holds which block may differ, and all bytes of free slots.
 -- Assumes nothing.
-use mathlib.Core.Path.{_≡_, refl, sym, ap, ap₂, _∙_, subst}
+use mathlib.Core.Path.{_≡_, refl, sym, ap, ap₂, _∙_, subst₂}
 use mathlib.Core.Bool.{Bool, true, false, not}
 use mathlib.Core.List.{List, [], _∷_}
 use Prim.Native.Nat.{ℕ, _*_}
 use lib.Dec.{T, leb}
 use lib.ListN.{length}
 use Rattle.answers.specs.declared.Answer.{Answer}
-use Rattle.answers.specs.declared.Answer.the-variants.{Conflict, Short}
+use Rattle.answers.specs.declared.Answer.the-variants.{Good, Short}
 use Rattle.answers.specs.Answers.{outOfRange, noRoom}
 use Rattle.answers.specs.Order.{Row, _if_, first, firstOf}
 use Rattle.answers.proofs.OrderLaws.{good-cases}
 use Rattle.pool.specs.Pool.{Pool, roomFor}
 use Rattle.pool.specs.Valid.{capacityOk, slotsOk, poolOk}
-use Rattle.pool.proofs.Keeping.{mapOk-distinct, poolOk-map, poolOk-unmapBlocks}
+use Rattle.pool.proofs.Keeping.{mapOk-distinct, poolOk-whole, poolOk-map, poolOk-unmapBlocks}
 use Rattle.pool.specs.Alike.{Alike}
 use Rattle.pool.proofs.Alike.{alike-self, alike-back, alike-through, alike-unmapped, alike-reads, alike-write, alike-unmap}
 use Rattle.descriptors.specs.declared.Descriptor.{Descriptor}
-use Rattle.rights.specs.Actions.{acted}
 use Rattle.forms.specs.declared.Move.{Move}
 use Rattle.forms.specs.declared.Move.the-variants.{Read, Write, Unmap}
 use Rattle.forms.specs.declared.Command.{Command}
-use Rattle.forms.specs.declared.Command.the-variants.{Tells, Moves, Alters, Unknown, Unlisted}
-use Rattle.forms.specs.declared.Form.{Form}
-use Rattle.forms.specs.Forms.{formOf, addressOf, sizeOf}
+use Rattle.forms.specs.declared.Command.the-variants.{Tells, Moves, Alters}
+use Rattle.forms.specs.declared.Request.{Request}
+use Rattle.forms.specs.Forms.{Asked, nothing, asks, askedOf, countIn}
+use Rattle.forms.proofs.Table.{isMoves}
 use Rattle.store.specs.declared.Unit.{Unit}
 use Rattle.store.specs.Store.{Store, Call, Seen, usable, seenOf}
-use Rattle.store.specs.Tell.{told, tellRows}
-use Rattle.store.specs.Move.{rangeRows, moveRows, moved, fetched}
-use Rattle.store.specs.Alter.{parametersOf, alterRows}
+use Rattle.store.specs.Move.{writeRows, moveRows, moved, fetched}
 use Rattle.store.specs.Fresh.{freshStore}
-use Rattle.store.specs.Step.{ownRows, answerBy, dataBy, storeBy, stepBy, step}
+use Rattle.store.specs.Step.{commandRows, ownRows, commandData, dataBy, commandStore, storeBy, step}
+use Rattle.store.proofs.Parts.{answers-alike, good-own}
+use Rattle.store.proofs.StoreLaws.{step-answer, step-seen, command-rows, command-data, command-unit}
+use Rattle.store.proofs.MoveLaws.{write-passes}
 use Rattle.demands.specs.History.{after}
-use Rattle.demands.specs.Contents.{Asks, addressIn, countIn, IsGood, descriptorsOf, unmapEach, Same, seenAll}
-use Rattle.demands.proofs.Parts.{own-decides}
+use Rattle.demands.specs.Contents.{descriptorsOf, unmapEach, Same, seenAll}
 use Rattle.demands.proofs.Usable.{usable-pool, usable-stays}
 use Rattle.demands.proofs.Fresh.{fresh-usable}
-use Rattle.demands.proofs.Moving.{done-after, refused-after, good-pool, moves-unit}
-use Rattle.demands.proofs.Transfers.{usable-whole, fresh-contents, write-pool, write-long, write-room}
-use Rattle.demands.proofs.Unmaps.{unmap-pool}
+use Rattle.demands.proofs.Moving.{done-after, refused-after}
+use Rattle.demands.proofs.Transfers.{fresh-contents}
+use Rattle.demands.proofs.Unmaps.{each-moved}
 
 pub same-self : (s : Store) → Same s s
 same-self s = record { unit = refl; pool = alike-self (s .pool) }
@@ -57,43 +57,51 @@ unfolding firstOf
 behind a true xs ys e = refl
 behind a false xs ys e = e
 
-range-same : (f : Form) (m : Move) (capacity : ℕ) (p q : Pool) (c : Call) → Alike p q
-    → first (rangeRows f m capacity p c) ≡ first (rangeRows f m capacity q c)
-unfolding rangeRows roomFor
-range-same f Read capacity p q c l = refl
-range-same f Write capacity p q c l =
+rows-same : (m : Move) (q : Request) (capacity : ℕ) (x y : Pool) (c : Call) → Alike x y → first (moveRows m q capacity x c) ≡ first (moveRows m q capacity y c)
+unfolding moveRows writeRows roomFor
+rows-same Read q capacity x y c l = refl
+rows-same Write q capacity x y c l =
     behind outOfRange _ _ _ (behind Short _ _ _
-    (ap₂ (λ (x y : ℕ). first (noRoom if not (leb x y) ∷ [])) (alike-unmapped p q l (addressOf f (c .cdb)) (sizeOf f (c .cdb))) (l .frees)))
-range-same f Unmap capacity p q c l = refl
+    (ap₂ (λ (m n : ℕ). first (noRoom if not (leb m n) ∷ [])) (alike-unmapped x y l (q .address .0) (countIn q)) (l .frees)))
+rows-same Unmap q capacity x y c l = refl
 
-module _ (f : Form) (s t : Store) (c : Call) (e : Same s t) where
-  own-same : (k : Command) → first (ownRows f k s c) ≡ first (ownRows f k t c)
-  unfolding ownRows moveRows
-  own-same (Tells x) = ap (λ (u : Unit). first (tellRows f x u c)) (e .unit)
-  own-same (Moves m) =
-      ap (λ (u : Unit). first (moveRows f m u (s .pool) c)) (e .unit)
-      ∙ behind Conflict _ _ _ (range-same f m (t .unit .capacity) (s .pool) (t .pool) c (e .pool))
-  own-same (Alters a) = ap (λ (u : Unit). first (alterRows f a (u .rights) c)) (e .unit)
-  own-same Unknown = refl
-  own-same Unlisted = refl
+fetched-same : (m : Move) (q : Request) (x y : Pool) → Alike x y → fetched m q x ≡ fetched m q y
+unfolding fetched
+fetched-same Read q x y l = alike-reads x y l (q .address .0) (countIn q)
+fetched-same Write q x y l = refl
+fetched-same Unmap q x y l = refl
 
-  data-same : (k : Command) → dataBy f k s c ≡ dataBy f k t c
-  unfolding dataBy fetched
-  data-same (Tells x) = ap (λ (u : Unit). told f x u (c .cdb)) (e .unit)
-  data-same (Moves Read) = alike-reads (s .pool) (t .pool) (e .pool) (addressOf f (c .cdb)) (sizeOf f (c .cdb))
-  data-same (Moves Write) = refl
-  data-same (Moves Unmap) = refl
-  data-same (Alters a) = refl
-  data-same Unknown = refl
-  data-same Unlisted = refl
+module _ (s t : Store) (c : Call) (e : Same s t) where
+  command-same : (k : Command) (q : Request) → first (commandRows k q s c) ≡ first (commandRows k q t c)
+  unfolding commandRows isMoves
+  command-same (Tells x) q = ap first (command-rows (Tells x) q s t c tt (e .unit))
+  command-same (Moves m) q =
+      ap (λ (u : Unit). first (moveRows m q (u .capacity) (s .pool) c)) (e .unit) ∙ rows-same m q (t .unit .capacity) (s .pool) (t .pool) c (e .pool)
+  command-same (Alters a) q = ap first (command-rows (Alters a) q s t c tt (e .unit))
+
+  own-same : (x : Asked) → first (ownRows x s c) ≡ first (ownRows x t c)
+  unfolding ownRows
+  own-same nothing = refl
+  own-same (asks q) = command-same (q .command) q
+
+  returned-same : (k : Command) (q : Request) → commandData k q s ≡ commandData k q t
+  unfolding commandData isMoves
+  returned-same (Tells x) q = command-data (Tells x) q s t tt (e .unit)
+  returned-same (Moves m) q = fetched-same m q (s .pool) (t .pool) (e .pool)
+  returned-same (Alters a) q = command-data (Alters a) q s t tt (e .unit)
+
+  data-same : (x : Asked) → dataBy x s ≡ dataBy x t
+  unfolding dataBy
+  data-same nothing = refl
+  data-same (asks q) = returned-same (q .command) q
 
 -- every call is answered alike: answer, returned length, data-in and sense
 pub same-seen : (s t : Store) (c : Call) → T (usable s) → T (usable t) → Same s t → step s c .seen ≡ step t c .seen
-unfolding step stepBy answerBy
 same-seen s t c u v e =
-    ap₂ (λ (a : Answer) (bs : List ℕ). seenOf a bs c)
-    (own-decides (formOf (c .cdb)) (formOf (c .cdb) .command) s t c u v (own-same (formOf (c .cdb)) s t c e (formOf (c .cdb) .command)))
-    (data-same (formOf (c .cdb)) s t c e (formOf (c .cdb) .command))
+    step-seen s c
+    ∙ ap₂ (λ (a : Answer) (bs : List ℕ). seenOf a bs c)
+    (answers-alike s t c u v (e .unit) (λ g. own-same s t c e (askedOf (c .cdb)))) (data-same s t c e (askedOf (c .cdb)))
+    ∙ sym (step-seen t c)
 
 -- ---- what is left
 
@@ -102,42 +110,42 @@ unfolding unmapEach
 each-same capacity [] p q u v l = l
 each-same capacity (d ∷ ds) p q u v l =
     each-same capacity ds _ _ (poolOk-unmapBlocks capacity p (d .address .0) (d .count) u) (poolOk-unmapBlocks capacity q (d .address .0) (d .count) v)
-    (alike-unmap p q l (d .address .0) (d .count) (mapOk-distinct capacity (p .owners) (poolOk-map capacity p u)) (mapOk-distinct capacity (q .owners) (poolOk-map capacity q v)))
+    (alike-unmap p q l (d .address .0) (d .count)
+    (mapOk-distinct capacity (p .owners) (poolOk-map capacity p u)) (mapOk-distinct capacity (q .owners) (poolOk-map capacity q v)))
 
-carry : {A : Type 0} (R : A → A → Type 0) (x y p q : A) → x ≡ p → y ≡ q → R p q → R x y
-carry R x y p q d e r = subst (λ (z : _). R z y) (sym d) (subst (R p) (sym e) r)
+module _ (capacity : ℕ) (x y : Pool) (c : Call) (u : T (poolOk capacity x)) (v : T (poolOk capacity y)) (l : Alike x y) where
+  moved-same : (m : Move) (q : Request) → first (moveRows m q capacity x c) ≡ Good → Alike (moved m q x c) (moved m q y c)
+  unfolding moveRows moved
+  moved-same Read q e = l
+  moved-same Write q e =
+      let h = write-passes capacity (x .owners) (q .address .0) (countIn q) (c .dataOut) .0 e in
+      alike-write x y l (q .address .0) (countIn q) (c .dataOut) (poolOk-whole capacity x u) (poolOk-whole capacity y v) (h .1) (h .2)
+  moved-same Unmap q e =
+      subst₂ Alike (sym (each-moved q x c)) (sym (each-moved q y c)) (each-same capacity (descriptorsOf q (c .dataOut)) x y u v l)
 
-module _ (s t : Store) (c : Call) (u : T (usable s)) (v : T (usable t)) (e : Same s t) (g : IsGood s c) (h : IsGood t c) where
-  pool-same : (m : Move) → Asks m c → Alike (after step s c .pool) (after step t c .pool)
-  unfolding moved
-  pool-same Read a = carry Alike _ _ (s .pool) (t .pool) (good-pool Read s c a g) (good-pool Read t c a h) (e .pool)
-  pool-same Write a =
-      carry Alike _ _ _ _ (write-pool s c a g) (write-pool t c a h)
-      (alike-write (s .pool) (t .pool) (e .pool) (addressIn c) (countIn c) (c .dataOut) (usable-whole s u) (usable-whole t v) (write-long s c a g) (write-room s c a g))
-  pool-same Unmap a =
-      carry Alike _ _ _ _ (unmap-pool s c a g) (unmap-pool t c a h)
-      (each-same (s .unit .capacity) (descriptorsOf c) (s .pool) (t .pool) (usable-pool s u) (rw (e .unit) (usable-pool t v)) (e .pool))
+module _ (s t : Store) (c : Call) (u : T (usable s)) (v : T (usable t)) (e : Same s t) where
+  left-same : (k : Command) (q : Request) → first (commandRows k q s c) ≡ Good → Same (commandStore k q s c) (commandStore k q t c)
+  unfolding commandRows commandStore
+  left-same (Tells x) q g = e
+  left-same (Moves m) q g = record {
+    unit = e .unit;
+    pool = moved-same (s .unit .capacity) (s .pool) (t .pool) c (usable-pool s u) (rw (e .unit) (usable-pool t v)) (e .pool) m q g;
+  }
+  left-same (Alters a) q g = record { unit = command-unit (Alters a) q s t c (e .unit); pool = e .pool }
 
-  done-same : (k : Command) → formOf (c .cdb) .command ≡ k → Same (after step s c) (after step t c)
-  unfolding storeBy
-  done-same (Tells x) a = carry Same _ _ s t (done-after (Tells x) s c a g) (done-after (Tells x) t c a h) e
-  done-same (Moves m) a = record { unit = moves-unit m s c a ∙ e .unit ∙ sym (moves-unit m t c a); pool = pool-same m a }
-  done-same (Alters x) a =
-      carry Same _ _ _ _ (done-after (Alters x) s c a g) (done-after (Alters x) t c a h)
-      (record {
-        unit = ap (λ (u : Unit). record { capacity = u .capacity; rights = acted x (u .rights) (c .nexus) (parametersOf (c .cdb) (c .dataOut)) }) (e .unit);
-        pool = e .pool;
-      })
-  done-same Unknown a = carry Same _ _ s t (done-after Unknown s c a g) (done-after Unknown t c a h) e
-  done-same Unlisted a = carry Same _ _ s t (done-after Unlisted s c a g) (done-after Unlisted t c a h) e
+  done-same : (x : Asked) → first (ownRows x s c) ≡ Good → Same (storeBy x s c) (storeBy x t c)
+  unfolding ownRows storeBy
+  done-same nothing g = e
+  done-same (asks q) g = left-same (q .command) q g
 
 -- and they stay the same
 pub same-after : (s t : Store) (c : Call) → T (usable s) → T (usable t) → Same s t → Same (after step s c) (after step t c)
 same-after s t c u v e =
     let q : step s c .seen .answer ≡ step t c .seen .answer = ap (λ (x : Seen). x .answer) (same-seen s t c u v e) in
     good-cases (step s c .seen .answer)
-    (λ g. done-same s t c u v e g (sym q ∙ g) (formOf (c .cdb) .command) refl)
-    (λ r. carry Same _ _ s t (refused-after s c r) (refused-after t c (rw q at r)) e)
+    (λ g. subst₂ Same (sym (done-after s c g)) (sym (done-after t c (sym q ∙ g)))
+    (done-same s t c u v e (askedOf (c .cdb)) (good-own s c (sym (step-answer s c) ∙ g))))
+    (λ r. subst₂ Same (sym (refused-after s c r)) (sym (refused-after t c (rw q at r))) e)
 
 -- ---- for ever
 

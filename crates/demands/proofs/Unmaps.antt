@@ -15,11 +15,13 @@ use Rattle.pool.proofs.Reading.{unmap-in, unmap-out, reads-same, reads-zeros}
 use Rattle.descriptors.specs.declared.Descriptor.{Descriptor}
 use Rattle.descriptors.specs.Descriptors.{descriptorAt, considered, unmapAll}
 use Rattle.forms.specs.declared.Move.the-variants.{Read, Unmap}
+use Rattle.forms.specs.declared.Request.{Request}
+use Rattle.forms.specs.Forms.{countIn, listLengthIn}
 use Rattle.store.specs.Store.{Store, Call, seenOf}
 use Rattle.store.specs.Move.{moved}
 use Rattle.store.specs.Step.{step}
 use Rattle.demands.specs.History.{after}
-use Rattle.demands.specs.Contents.{Asks, addressIn, countIn, IsGood, Outside, descriptorsFrom, descriptorsOf, unmapEach, covers, names}
+use Rattle.demands.specs.Contents.{Asks, addressIn, IsGood, Outside, descriptorsFrom, descriptorsOf, unmapEach, covers, names}
 use Rattle.demands.proofs.Usable.{usable-stays}
 use Rattle.demands.proofs.Moving.{good-usable, good-pool, after-ways, moves-unit}
 use Rattle.demands.proofs.Transfers.{read-seen, read-sees}
@@ -34,11 +36,14 @@ each-of owners medium list at zero = refl
 each-of owners medium list at (suc n) =
     each-of (unmapOwners owners (descriptorAt list at .address .0) (descriptorAt list at .count)) medium list (at + 16) n
 
--- the pool after a GOOD UNMAP is what its descriptors leave, each acting on what those before it left
-pub unmap-pool : (s : Store) (c : Call) → Asks Unmap c → IsGood s c → after step s c .pool ≡ unmapEach (s .pool) (descriptorsOf c)
+-- the pool after an UNMAP is what its descriptors leave, each acting on what those before it left
+pub each-moved : (q : Request) (p : Pool) (c : Call) → moved Unmap q p c ≡ unmapEach p (descriptorsOf q (c .dataOut))
 unfolding moved descriptorsOf
-unmap-pool s c a e =
-    good-pool Unmap s c a e ∙ each-of (s .pool .owners) (s .pool .medium) (c .dataOut) 8 (considered (countIn c) (c .dataOut))
+each-moved q p c = each-of (p .owners) (p .medium) (c .dataOut) 8 (considered (listLengthIn q) (c .dataOut))
+
+pub unmap-pool : (s : Store) (c : Call) (a : Asks Unmap c) → IsGood s c
+    → after step s c .pool ≡ unmapEach (s .pool) (descriptorsOf (a .request) (c .dataOut))
+unmap-pool s c a e = good-pool Unmap s c a e ∙ each-moved (a .request) (s .pool) c
 
 -- ---- what is read
 
@@ -130,42 +135,45 @@ descriptor-names list at (suc n) (suc k) i h l =
     rw later (names-rest (descriptorAt list at) (descriptorsFrom list (at + 16) n) _ (descriptor-names list (at + 16) n k i (omega arith) (rw later at l)))
 
 -- "descriptors from byte 8, 16 bytes each": every block of every considered one is named
-pub considered-named : (c : Call) (k i : ℕ) → k < considered (countIn c) (c .dataOut) → i < descriptorAt (c .dataOut) (8 + 16 * k) .count
-    → T (names (descriptorsOf c) (descriptorAt (c .dataOut) (8 + 16 * k) .address .0 + i))
+pub considered-named : (q : Request) (list : List ℕ) (k i : ℕ) → k < considered (listLengthIn q) list → i < descriptorAt list (8 + 16 * k) .count
+    → T (names (descriptorsOf q list) (descriptorAt list (8 + 16 * k) .address .0 + i))
 unfolding descriptorsOf
-considered-named c k i h l = descriptor-names (c .dataOut) 8 (considered (countIn c) (c .dataOut)) k i h l
+considered-named q list k i h l = descriptor-names list 8 (considered (listLengthIn q) list) k i h l
 
 -- ---- a call
 
--- every block after a GOOD UNMAP
-pub unmap-contents : (s : Store) (c : Call) → Asks Unmap c → IsGood s c → (b : ℕ)
-    → readBlock (after step s c .pool) b ≡ cond (names (descriptorsOf c) b) (zeros 512) (readBlock (s .pool) b)
-unmap-contents s c a e b = ap (λ (p : Pool). readBlock p b) (unmap-pool s c a e) ∙ each-read (descriptorsOf c) (s .pool) b
+-- does a considered descriptor of this UNMAP name the block
+abbrev pub named : (c : Call) → Asks Unmap c → ℕ → Bool
+named c a = names (descriptorsOf (a .request) (c .dataOut))
 
-pub unmap-zeros : (s : Store) (c : Call) → Asks Unmap c → IsGood s c → (b : ℕ) → T (names (descriptorsOf c) b) → readBlock (after step s c .pool) b ≡ zeros 512
-unmap-zeros s c a e b t =
-    unmap-contents s c a e b ∙ ap (λ (q : Bool). cond q (zeros 512) (readBlock (s .pool) b)) (T-true (names (descriptorsOf c) b) t)
+module _ (s : Store) (c : Call) (a : Asks Unmap c) where
+  -- every block after a GOOD UNMAP
+  pub unmap-contents : IsGood s c → (b : ℕ) → readBlock (after step s c .pool) b ≡ cond (named c a b) (zeros 512) (readBlock (s .pool) b)
+  unmap-contents e b =
+      ap (λ (p : Pool). readBlock p b) (unmap-pool s c a e) ∙ each-read (descriptorsOf (a .request) (c .dataOut)) (s .pool) b
 
-pub unmap-keeps : (s : Store) (c : Call) → Asks Unmap c → (b : ℕ) → T (not (names (descriptorsOf c) b))
-    → readBlock (after step s c .pool) b ≡ readBlock (s .pool) b
-unmap-keeps s c a b t =
-    after-ways s c (λ x. readBlock (x .pool) b ≡ readBlock (s .pool) b)
-    (λ e. unmap-contents s c a e b ∙ ap (λ (q : Bool). cond q (zeros 512) (readBlock (s .pool) b)) (T-false (names (descriptorsOf c) b) t)) refl
+  pub unmap-zeros : IsGood s c → (b : ℕ) → T (named c a b) → readBlock (after step s c .pool) b ≡ zeros 512
+  unmap-zeros e b t = unmap-contents e b ∙ ap (λ (q : Bool). cond q (zeros 512) (readBlock (s .pool) b)) (T-true (named c a b) t)
+
+  pub unmap-keeps : (b : ℕ) → T (not (named c a b)) → readBlock (after step s c .pool) b ≡ readBlock (s .pool) b
+  unmap-keeps b t =
+      after-ways s c (λ x. readBlock (x .pool) b ≡ readBlock (s .pool) b)
+      (λ e. unmap-contents e b ∙ ap (λ (q : Bool). cond q (zeros 512) (readBlock (s .pool) b)) (T-false (named c a b) t)) refl
 
 -- ---- a READ after it
 
 module _ (s : Store) (c r : Call) (a : Asks Unmap c) (b : Asks Read r) where
-  pub unmap-then-read : ((i : ℕ) → i < countIn r → T (names (descriptorsOf c) (addressIn r + i))) → IsGood s c → IsGood (after step s c) r
-      → step (after step s c) r .seen ≡ seenOf Good (zeros (512 * countIn r)) r
+  pub unmap-then-read : ((i : ℕ) → i < countIn (b .request) → T (named c a (addressIn (b .request) + i))) → IsGood s c → IsGood (after step s c) r
+      → step (after step s c) r .seen ≡ seenOf Good (zeros (512 * countIn (b .request))) r
   unmap-then-read within g h =
       read-seen (after step s c) r b h
       ∙ ap (λ (bs : List ℕ). seenOf Good bs r)
-      (reads-zeros (after step s c .pool) (addressIn r) (countIn r) (λ i k. unmap-zeros s c a g (addressIn r + i) (within i k)))
+      (reads-zeros (after step s c .pool) (addressIn (b .request)) (countIn (b .request)) (λ i k. unmap-zeros s c a g (addressIn (b .request) + i) (within i k)))
 
   -- a READ of blocks that none names sees what it would have seen before, and so it is where the UNMAP is refused
-  pub unmap-keeps-others : ((i : ℕ) → i < countIn r → T (not (names (descriptorsOf c) (addressIn r + i))))
+  pub unmap-keeps-others : ((i : ℕ) → i < countIn (b .request) → T (not (named c a (addressIn (b .request) + i))))
       → step (after step s c) r .seen ≡ step s r .seen
   unmap-keeps-others out =
       after-ways s c (λ t. step t r .seen ≡ step s r .seen)
-      (λ e. let u = good-usable s c e in read-sees (after step s c) s r b (usable-stays s c u) u (moves-unit Unmap s c a)
-      (reads-same (after step s c .pool) (s .pool) (addressIn r) (countIn r) (λ i h. unmap-keeps s c a (addressIn r + i) (out i h)))) refl
+      (λ e. let u = good-usable s c e in read-sees (after step s c) s r b (moves-unit Unmap s c a) (usable-stays s c u) u
+      (reads-same (after step s c .pool) (s .pool) (addressIn (b .request)) (countIn (b .request)) (λ i h. unmap-keeps s c a (addressIn (b .request) + i) (out i h)))) refl

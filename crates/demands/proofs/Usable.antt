@@ -1,42 +1,40 @@
 -- A usable store stays usable after every call, and its lists keep their lengths.
 -- Assumes nothing.
 use mathlib.Core.Path.{_≡_, refl, _∙_}
-use mathlib.Core.Bool.{not}
 use mathlib.Core.List.{List}
-use Prim.Native.Nat.{ℕ, zero, suc, _+_, _%_, _≤_}
-use lib.Dec.{T, ltb, nltb→le}
+use Prim.Native.Nat.{ℕ, zero, suc, _+_, _≤_}
+use lib.Dec.{T}
 use lib.ListN.{length}
-use Rattle.fields.specs.Field.{byte}
-use Rattle.fields.proofs.Tests.{and-l, and-r, both, not-not, false→T}
-use Rattle.answers.specs.declared.Answer.{Answer}
-use Rattle.answers.specs.declared.Answer.the-variants.{Good, Refused, Conflict, Unusable, Short}
-use Rattle.answers.specs.Answers.{notListed, invalidField, outOfRange, listLength}
-use Rattle.answers.specs.Order.{first, ifGood, ifGoodBy, refuses}
-use Rattle.answers.proofs.OrderLaws.{row-fails, rows-after}
+use Rattle.fields.proofs.Tests.{and-l, and-r, both}
+use Rattle.answers.specs.declared.Answer.the-variants.{Good, Short}
+use Rattle.answers.specs.Answers.{listLength}
+use Rattle.answers.specs.Order.{first, refuses}
+use Rattle.answers.proofs.OrderLaws.{rows-after}
 use Rattle.pool.specs.Pool.{Pool, writeBlocks, unmapBlocks}
 use Rattle.pool.specs.Valid.{capacityOk, poolOk}
 use Rattle.pool.proofs.Keeping.{poolOk-writeBlocks, poolOk-unmapBlocks, length-assignBlocks, length-putBlocks, length-unmapOwners}
 use Rattle.descriptors.specs.Descriptors.{descriptorAt, unmapAll}
 use Rattle.rights.specs.declared.Action.{Action}
-use Rattle.rights.specs.declared.Action.the-variants.{Register, Reserve, Release, Clear, Preempt, RegisterIgnoring}
 use Rattle.rights.specs.declared.Rights.{Rights}
 use Rattle.rights.specs.Rights.{isType, rightsOk}
-use Rattle.rights.specs.Actions.{decisionRows, acted}
+use Rattle.rights.specs.Actions.{acted}
 use Rattle.rights.proofs.Keeping.{makes, acted-keeps}
 use Rattle.forms.specs.declared.Move.{Move}
 use Rattle.forms.specs.declared.Move.the-variants.{Read, Write, Unmap}
 use Rattle.forms.specs.declared.Command.{Command}
-use Rattle.forms.specs.declared.Command.the-variants.{Tells, Moves, Alters, Unknown, Unlisted}
-use Rattle.forms.specs.declared.Form.{Form}
-use Rattle.forms.specs.Forms.{formOf, addressOf, sizeOf}
-use Rattle.forms.specs.Tests.{typeRows, fieldRows, formRows}
+use Rattle.forms.specs.declared.Command.the-variants.{Tells, Moves, Alters}
+use Rattle.forms.specs.declared.Request.{Request}
+use Rattle.forms.specs.Forms.{Asked, nothing, asks, askedOf, countIn}
+use Rattle.forms.proofs.Fields.{isMaker, asked-typed}
 use Rattle.store.specs.declared.Unit.{Unit}
 use Rattle.store.specs.Store.{Store, Call, unitOk, usable}
-use Rattle.store.specs.Move.{pastEnd, rangeRows, moveRows, moved}
+use Rattle.store.specs.Move.{moveRows, moved}
 use Rattle.store.specs.Alter.{parametersOf, alterRows}
-use Rattle.store.specs.Step.{ownRows, answerBy, storeBy, stepBy, step}
+use Rattle.store.specs.Step.{commandRows, ownRows, commandStore, storeBy, step, answerTo}
+use Rattle.store.proofs.Parts.{Cleared, good-cleared, good-own, call-nexus}
+use Rattle.store.proofs.StoreLaws.{step-ways}
+use Rattle.store.proofs.MoveLaws.{write-passes}
 use Rattle.demands.specs.History.{after}
-use Rattle.demands.proofs.Parts.{answerAs, good-nexus, good-form, good-own, either-store}
 
 -- ---- usable, taken apart and put together
 
@@ -80,123 +78,84 @@ unmapAll-length owners list at zero = refl
 unmapAll-length owners list at (suc n) =
     unmapAll-length _ list (at + 16) n ∙ length-unmapOwners owners (descriptorAt list at .address .0) (descriptorAt list at .count)
 
-in-range : (f : Form) (capacity : ℕ) (p : Pool) (c : Call) → first (rangeRows f Write capacity p c) ≡ Good → addressOf f (c .cdb) + sizeOf f (c .cdb) ≤ capacity
-unfolding rangeRows pastEnd refuses
-in-range f capacity p c e = nltb→le capacity _ (false→T (ltb capacity (addressOf f (c .cdb) + sizeOf f (c .cdb))) (row-fails outOfRange _ _ tt e))
+moved-ok : (m : Move) (q : Request) (capacity : ℕ) (p : Pool) (c : Call) → T (poolOk capacity p) → first (moveRows m q capacity p c) ≡ Good
+    → T (poolOk capacity (moved m q p c))
+unfolding moveRows moved
+moved-ok Read q capacity p c t e = t
+moved-ok Write q capacity p c t e =
+    poolOk-writeBlocks capacity p _ _ (c .dataOut) t (write-passes capacity (p .owners) (q .address .0) (countIn q) (c .dataOut) .0 e .0)
+moved-ok Unmap q capacity p c t e = unmapAll-ok capacity (p .owners) (p .medium) (c .dataOut) 8 _ t
 
-moved-ok : (f : Form) (m : Move) (capacity : ℕ) (p : Pool) (c : Call) → T (poolOk capacity p) → first (rangeRows f m capacity p c) ≡ Good
-    → T (poolOk capacity (moved f m p c))
-unfolding moved
-moved-ok f Read capacity p c t e = t
-moved-ok f Write capacity p c t e = poolOk-writeBlocks capacity p _ _ (c .dataOut) t (in-range f capacity p c e)
-moved-ok f Unmap capacity p c t e = unmapAll-ok capacity (p .owners) (p .medium) (c .dataOut) 8 _ t
-
-moved-owners : (f : Form) (m : Move) (p : Pool) (c : Call) → length (moved f m p c .owners) ≡ length (p .owners)
+moved-owners : (m : Move) (q : Request) (p : Pool) (c : Call) → length (moved m q p c .owners) ≡ length (p .owners)
 unfolding moved writeBlocks
-moved-owners f Read p c = refl
-moved-owners f Write p c = length-assignBlocks (p .owners) _ _
-moved-owners f Unmap p c = unmapAll-length (p .owners) (c .dataOut) 8 _
+moved-owners Read q p c = refl
+moved-owners Write q p c = length-assignBlocks (p .owners) _ _
+moved-owners Unmap q p c = unmapAll-length (p .owners) (c .dataOut) 8 _
 
-moved-medium : (f : Form) (m : Move) (p : Pool) (c : Call) → length (moved f m p c .medium) ≡ length (p .medium)
+moved-medium : (m : Move) (q : Request) (p : Pool) (c : Call) → length (moved m q p c .medium) ≡ length (p .medium)
 unfolding moved writeBlocks
-moved-medium f Read p c = refl
-moved-medium f Write p c = length-putBlocks _ (p .medium) _ _ (c .dataOut)
-moved-medium f Unmap p c = refl
+moved-medium Read q p c = refl
+moved-medium Write q p c = length-putBlocks _ (p .medium) _ _ (c .dataOut)
+moved-medium Unmap q p c = refl
 
 -- ---- commands that alter
 
-type-right : (cdb : List ℕ) → first (typeRows cdb) ≡ Good → T (isType (byte 2 cdb % 16))
-unfolding typeRows refuses
-type-right cdb e =
-    not-not (isType (byte 2 cdb % 16)) (false→T _ (row-fails invalidField (not (isType (byte 2 cdb % 16))) _ tt (rows-after invalidField _ _ tt e)))
-
-pub form-fields : (f : Form) (k : Command) (cdb : List ℕ) → first (formRows f k cdb) ≡ Good → first (fieldRows f k cdb) ≡ Good
-unfolding formRows refuses
-form-fields f k cdb e = rows-after invalidField _ _ tt (rows-after Unusable _ _ tt (rows-after notListed _ _ tt e))
-
--- what RESERVE and PREEMPT may count on
-maker-type : (f : Form) (a : Action) (cdb : List ℕ) → first (fieldRows f (Alters a) cdb) ≡ Good → T (makes a) → T (isType (byte 2 cdb % 16))
-unfolding fieldRows makes
-maker-type f Register cdb e m = absurd m
-maker-type f Reserve cdb e m = type-right cdb e
-maker-type f Release cdb e m = absurd m
-maker-type f Clear cdb e m = absurd m
-maker-type f Preempt cdb e m = type-right cdb e
-maker-type f RegisterIgnoring cdb e m = absurd m
-
-order-good : (f : Form) (a : Action) (r : Rights) (c : Call) → first (alterRows f a r c) ≡ Good
-    → first (decisionRows a r (c .nexus) (parametersOf (c .cdb) (c .dataOut))) ≡ Good
-unfolding alterRows refuses
-order-good f a r c e = rows-after Short _ _ tt (rows-after listLength _ _ tt e)
-
-altered-ok : (f : Form) (a : Action) (r : Rights) (c : Call) → T (rightsOk r) → c .nexus ≤ 15 → first (formRows f (Alters a) (c .cdb)) ≡ Good
-    → first (alterRows f a r c) ≡ Good → T (rightsOk (acted a r (c .nexus) (parametersOf (c .cdb) (c .dataOut))))
-unfolding parametersOf
-altered-ok f a r c t n e d =
-    acted-keeps a r (c .nexus) (parametersOf (c .cdb) (c .dataOut)) t n (order-good f a r c d) (maker-type f a (c .cdb) (form-fields f (Alters a) (c .cdb) e))
+altered-ok : (a : Action) (q : Request) (r : Rights) (n : ℕ) (dataOut : List ℕ) → T (rightsOk r) → n ≤ 15 → (T (makes a) → T (isType (q .kind)))
+    → first (alterRows a q r n dataOut) ≡ Good → T (rightsOk (acted a r n (parametersOf q dataOut)))
+unfolding alterRows parametersOf refuses
+altered-ok a q r n dataOut t small k e =
+    acted-keeps a r n (parametersOf q dataOut) t small (rows-after Short _ _ tt (rows-after listLength _ _ tt e)) k
 
 -- ---- a call
 
-pub after-conflict : (f : Form) (m : Move) (s : Store) (c : Call) → first (ownRows f (Moves m) s c) ≡ Good
-    → first (rangeRows f m (s .unit .capacity) (s .pool) c) ≡ Good
-unfolding ownRows moveRows refuses
-after-conflict f m s c e = rows-after Conflict _ _ tt e
-
-alter-good : (f : Form) (a : Action) (s : Store) (c : Call) → first (ownRows f (Alters a) s c) ≡ Good → first (alterRows f a (s .unit .rights) c) ≡ Good
-unfolding ownRows
-alter-good f a s c e = e
-
-done-usable : (f : Form) (k : Command) (s : Store) (c : Call) → T (usable s) → answerAs f k s c ≡ Good → T (usable (storeBy f k s c))
-unfolding storeBy
-done-usable f (Tells t) s c u e = u
-done-usable f (Moves m) s c u e =
-    usable-of _ (usable-unit s u) (moved-ok f m (s .unit .capacity) (s .pool) c (usable-pool s u) (after-conflict f m s c (good-own f (Moves m) s c e)))
-done-usable f (Alters a) s c u e =
-    usable-of _ (unit-of _ (unit-capacity (s .unit) (usable-unit s u))
-    (altered-ok f a (s .unit .rights) c (unit-rights (s .unit) (usable-unit s u)) (good-nexus f (Alters a) s c e) (good-form f (Alters a) s c e) (alter-good f a s c (good-own f (Alters a) s c e))))
+command-usable : (k : Command) (q : Request) (s : Store) (c : Call) → T (usable s) → c .nexus ≤ 15 → (T (isMaker k) → T (isType (q .kind)))
+    → first (commandRows k q s c) ≡ Good → T (usable (commandStore k q s c))
+unfolding commandRows commandStore isMaker
+command-usable (Tells t) q s c u n k e = u
+command-usable (Moves m) q s c u n k e =
+    usable-of _ (usable-unit s u) (moved-ok m q (s .unit .capacity) (s .pool) c (usable-pool s u) e)
+command-usable (Alters a) q s c u n k e =
+    usable-of _
+    (unit-of _ (unit-capacity (s .unit) (usable-unit s u)) (altered-ok a q (s .unit .rights) (c .nexus) (c .dataOut) (unit-rights (s .unit) (usable-unit s u)) n k e))
     (usable-pool s u)
-done-usable f Unknown s c u e = u
-done-usable f Unlisted s c u e = u
 
-left-usable : (f : Form) (k : Command) (s : Store) (c : Call) (a : Answer) → T (usable s) → answerAs f k s c ≡ a → T (usable (ifGood a (storeBy f k s c) s))
-unfolding ifGoodBy refuses
-left-usable f k s c Good u e = done-usable f k s c u e
-left-usable f k s c (Refused n) u e = u
-left-usable f k s c Conflict u e = u
-left-usable f k s c Unusable u e = u
-left-usable f k s c Short u e = u
+done-usable : (s : Store) (c : Call) → answerTo s c ≡ Good → T (usable (storeBy (askedOf (c .cdb)) s c))
+unfolding ownRows storeBy
+done-usable s c e = go (askedOf (c .cdb)) refl (good-own s c e)
+  where
+    p : Cleared s c
+    p = good-cleared s c e
+
+    go : (x : Asked) → askedOf (c .cdb) ≡ x → first (ownRows x s c) ≡ Good → T (usable (storeBy x s c))
+    go nothing a g = p .store
+    go (asks q) a g = command-usable (q .command) q s c (p .store) (call-nexus c (p .call)) (asked-typed (c .cdb) q a (p .fields)) g
 
 -- a usable store stays usable
 pub usable-stays : (s : Store) (c : Call) → T (usable s) → T (usable (after step s c))
-unfolding step stepBy after answerBy
-usable-stays s c u = left-usable (formOf (c .cdb)) (formOf (c .cdb) .command) s c (answerBy (formOf (c .cdb)) s c) u refl
+unfolding after
+usable-stays s c u = step-ways (λ x. T (usable x)) s c (done-usable s c) u
 
 -- ---- lengths
 
-done-owners : (f : Form) (k : Command) (s : Store) (c : Call) → length (storeBy f k s c .pool .owners) ≡ length (s .pool .owners)
-unfolding storeBy
-done-owners f (Tells t) s c = refl
-done-owners f (Moves m) s c = moved-owners f m (s .pool) c
-done-owners f (Alters a) s c = refl
-done-owners f Unknown s c = refl
-done-owners f Unlisted s c = refl
+-- what every command keeps of the pool every call keeps
+module _ (size : Pool → ℕ) (moves : (m : Move) (q : Request) (p : Pool) (c : Call) → size (moved m q p c) ≡ size p) where
+  command-size : (k : Command) (q : Request) (s : Store) (c : Call) → size (commandStore k q s c .pool) ≡ size (s .pool)
+  unfolding commandStore
+  command-size (Tells t) q s c = refl
+  command-size (Moves m) q s c = moves m q (s .pool) c
+  command-size (Alters a) q s c = refl
 
-done-medium : (f : Form) (k : Command) (s : Store) (c : Call) → length (storeBy f k s c .pool .medium) ≡ length (s .pool .medium)
-unfolding storeBy
-done-medium f (Tells t) s c = refl
-done-medium f (Moves m) s c = moved-medium f m (s .pool) c
-done-medium f (Alters a) s c = refl
-done-medium f Unknown s c = refl
-done-medium f Unlisted s c = refl
+  done-size : (x : Asked) (s : Store) (c : Call) → size (storeBy x s c .pool) ≡ size (s .pool)
+  unfolding storeBy
+  done-size nothing s c = refl
+  done-size (asks q) s c = command-size (q .command) q s c
+
+  size-stays : (s : Store) (c : Call) → size (after step s c .pool) ≡ size (s .pool)
+  unfolding after
+  size-stays s c = step-ways (λ x. size (x .pool) ≡ size (s .pool)) s c (λ g. done-size (askedOf (c .cdb)) s c) refl
 
 pub owners-stay : (s : Store) (c : Call) → length (after step s c .pool .owners) ≡ length (s .pool .owners)
-unfolding step stepBy after
-owners-stay s c =
-    either-store (λ x. length (x .pool .owners) ≡ length (s .pool .owners)) (answerBy (formOf (c .cdb)) s c) s _
-    (done-owners (formOf (c .cdb)) (formOf (c .cdb) .command) s c) refl
+owners-stay = size-stays (λ p. length (p .owners)) moved-owners
 
 pub medium-stays : (s : Store) (c : Call) → length (after step s c .pool .medium) ≡ length (s .pool .medium)
-unfolding step stepBy after
-medium-stays s c =
-    either-store (λ x. length (x .pool .medium) ≡ length (s .pool .medium)) (answerBy (formOf (c .cdb)) s c) s _
-    (done-medium (formOf (c .cdb)) (formOf (c .cdb) .command) s c) refl
+medium-stays = size-stays (λ p. length (p .medium)) moved-medium

@@ -1,18 +1,18 @@
--- When a READ and a WRITE are GOOD, and which refusal they get otherwise: "READ: 10, 3, 12. WRITE: 10, 3, 12, 8."
+-- When a READ, a WRITE and an UNMAP are GOOD, and which refusal they get otherwise: "READ: 10, 3, 12. WRITE: 10, 3, 12, 8."
 -- Assumes nothing.
 use mathlib.Core.Path.{_≡_, refl, sym, ap, _∙_, subst}
 use mathlib.Core.Logic.{_↔_}
 use mathlib.Core.Bool.{true, false, not, _&&_}
 use mathlib.Core.List.{List}
 use Prim.Native.Nat.{ℕ, _+_, _*_, _≤_, _<_}
-use borrow.Author.Tests.{lt-ltb, le-ltb, ltb-false, lt-leb, le-leb, leb-true, not-false}
+use borrow.Author.Tests.{lt-ltb, le-ltb, lt-leb}
 use lib.Dec.{T, leb}
 use lib.ListN.{length}
 use Rattle.answers.specs.declared.Answer.{Answer}
 use Rattle.answers.specs.declared.Answer.the-variants.{Good, Conflict, Short}
-use Rattle.answers.specs.Answers.{outOfRange, listLength, listField, noRoom}
-use Rattle.answers.specs.Order.{first, next, refuses}
-use Rattle.answers.proofs.OrderLaws.{row-pass, row-stop, row-end, row-fails, rows-after, next-good, next-first, next-second}
+use Rattle.answers.specs.Answers.{outOfRange, noRoom}
+use Rattle.answers.specs.Order.{first}
+use Rattle.answers.proofs.OrderLaws.{row-pass, row-stop, row-end, next-after}
 use Rattle.pool.specs.Pool.{free, unmapped, roomFor}
 use Rattle.pool.specs.Valid.{capacityOk, slotsOk}
 use Rattle.descriptors.specs.Descriptors.{considered, someFails}
@@ -21,142 +21,122 @@ use Rattle.rights.specs.Conflict.{conflict, stops}
 use Rattle.rights.specs.Rights.{isOneOf, noRights}
 use Rattle.forms.specs.declared.Move.{Move}
 use Rattle.forms.specs.declared.Move.the-variants.{Read, Write, Unmap}
-use Rattle.forms.specs.declared.Command.{Command}
-use Rattle.forms.specs.declared.Command.the-variants.{Moves}
-use Rattle.forms.specs.Forms.{formOf}
-use Rattle.forms.specs.Tests.{formRows}
+use Rattle.forms.specs.Forms.{countIn, listLengthIn}
 use Rattle.store.specs.declared.Unit.{Unit}
 use Rattle.store.specs.Store.{Store, Call, usable}
-use Rattle.store.specs.Move.{access, pastEnd, rangeRows, moveRows}
+use Rattle.store.specs.Move.{access, pastEnd, readRows, writeRows, moveRows}
 use Rattle.store.specs.Fresh.{freshUnit, freshStore}
-use Rattle.store.specs.Step.{callRows, storeRows, ownRows, step}
+use Rattle.store.specs.Step.{step}
+use Rattle.store.proofs.Parts.{guardAnswer, Cleared, cleared, itself-cleared, conflict-first as first-conflict}
+use Rattle.store.proofs.StoreLaws.{step-answer}
+use Rattle.store.proofs.MoveLaws.{read-passes, write-passes, unmap-passes}
 use Rattle.demands.specs.History.{after}
-use Rattle.demands.specs.Contents.{Asks, addressIn, countIn, IsGood, byItself, Reaches, Room, SameRange}
-use Rattle.demands.proofs.Parts.{parts, usable-passes}
+use Rattle.demands.specs.Contents.{Asks, addressIn, IsGood, byItself, Reaches, Inside, Room, SameRange}
 use Rattle.demands.proofs.Usable.{usable-stays}
 use Rattle.demands.proofs.Fresh.{fresh-usable}
-use Rattle.demands.proofs.Moving.{answer-as, good-usable, good-range, moves-unit}
+use Rattle.demands.proofs.Moving.{good-usable, moves-unit, asks-guard, asks-rows}
+use Rattle.demands.proofs.Transfers.{write-inside}
 
 -- ---- up to a command's own tests
 
-next-pass : (a b : Answer) → a ≡ Good → next a b ≡ b
-next-pass a b e = ap (λ (x : Answer). next x b) e ∙ next-good b
+module _ (m : Move) (s : Store) (c : Call) (a : Asks m c) (u : T (usable s)) (g : byItself c ≡ Good) where
+  right : Cleared s c
+  unfolding byItself
+  right = itself-cleared s c u g
 
--- where a store is usable and a call is right by itself, the command's own tests decide
-pub own-answers : (k : Command) (s : Store) (c : Call) → formOf (c .cdb) .command ≡ k → T (usable s) → byItself c ≡ Good
-    → step s c .seen .answer ≡ first (ownRows (formOf (c .cdb)) k s c)
-unfolding byItself
-own-answers k s c e u g =
-    answer-as k s c e ∙ parts (formOf (c .cdb)) k s c
-    ∙ next-pass (first (callRows c)) _ (next-first (first (callRows c)) _ g)
-    ∙ next-pass (first (storeRows s)) _ (usable-passes s u)
-    ∙ next-pass (first (formRows (formOf (c .cdb)) k (c .cdb))) _
-    (ap (λ (k : Command). first (formRows (formOf (c .cdb)) k (c .cdb))) (sym e) ∙ next-second (first (callRows c)) _ g)
+  -- "10" comes first
+  pub conflict-first : conflict (s .unit .rights) (c .nexus) (access m) ≡ true → step s c .seen .answer ≡ Conflict
+  conflict-first h =
+      step-answer s c ∙ first-conflict s c right (ap first (asks-guard m c a (s .unit .rights) (c .nexus)) ∙ row-stop Conflict _ _ h)
 
--- "10" comes first
-pub conflict-first : (m : Move) (s : Store) (c : Call) → Asks m c → T (usable s) → byItself c ≡ Good
-    → conflict (s .unit .rights) (c .nexus) (access m) ≡ true → step s c .seen .answer ≡ Conflict
-unfolding ownRows moveRows
-conflict-first m s c a u g h = own-answers (Moves m) s c a u g ∙ row-stop Conflict _ _ h
+  -- then the command's own
+  pub own-answers : conflict (s .unit .rights) (c .nexus) (access m) ≡ false
+      → step s c .seen .answer ≡ first (moveRows m (a .request) (s .unit .capacity) (s .pool) c)
+  own-answers h =
+      step-answer s c ∙ cleared s c right
+      ∙ next-after (guardAnswer (s .unit) c) _ (ap first (asks-guard m c a (s .unit .rights) (c .nexus)) ∙ row-pass Conflict _ _ h ∙ row-end)
+      ∙ ap first (asks-rows m c a s)
 
-range-answers : (m : Move) (s : Store) (c : Call) → Reaches m s c
-    → step s c .seen .answer ≡ first (rangeRows (formOf (c .cdb)) m (s .unit .capacity) (s .pool) c)
-unfolding ownRows moveRows
-range-answers m s c r = own-answers (Moves m) s c (r .asks) (r .store) (r .call) ∙ row-pass Conflict _ _ (r .free)
+rows-answer : (m : Move) (s : Store) (c : Call) (a : Asks m c) → Reaches s a
+    → step s c .seen .answer ≡ first (moveRows m (a .request) (s .unit .capacity) (s .pool) c)
+rows-answer m s c a r = own-answers m s c a (r .store) (r .call) (r .free)
+
+-- an answer is GOOD exactly where the rows that give it are
+decided-by : {X : Type 0} {a b : Answer} → a ≡ b → b ≡ Good ↔ X → a ≡ Good ↔ X
+decided-by e h = (λ g. h .0 (sym e ∙ g), λ x. e ∙ h .1 x)
 
 -- ---- READ
 
-module _ (s : Store) (c : Call) (r : Reaches Read s c) where
+module _ (s : Store) (c : Call) (a : Asks Read c) (r : Reaches s a) where
   -- "3": the range ends past the capacity
-  pub read-past-end : s .unit .capacity < addressIn c + countIn c → step s c .seen .answer ≡ outOfRange
-  unfolding rangeRows pastEnd
-  read-past-end h = range-answers Read s c r ∙ row-stop outOfRange _ _ (lt-ltb _ _ h)
+  pub read-past-end : s .unit .capacity < addressIn (a .request) + countIn (a .request) → step s c .seen .answer ≡ outOfRange
+  unfolding moveRows readRows pastEnd
+  read-past-end h = rows-answer Read s c a r ∙ row-stop outOfRange _ _ (lt-ltb _ _ h)
 
   -- then "12": data-in is too short
-  pub read-short : addressIn c + countIn c ≤ s .unit .capacity → length (c .dataIn) < 512 * countIn c → step s c .seen .answer ≡ Short
-  unfolding rangeRows pastEnd
-  read-short h l = range-answers Read s c r ∙ row-pass outOfRange _ _ (le-ltb _ _ h) ∙ row-stop Short _ _ (lt-ltb _ _ l)
+  pub read-short : Inside s (a .request) → length (c .dataIn) < 512 * countIn (a .request) → step s c .seen .answer ≡ Short
+  unfolding moveRows readRows pastEnd
+  read-short h l = rows-answer Read s c a r ∙ row-pass outOfRange _ _ (le-ltb _ _ h) ∙ row-stop Short _ _ (lt-ltb _ _ l)
 
   -- GOOD exactly where neither holds
-  pub read-good : IsGood s c ↔ ((addressIn c + countIn c ≤ s .unit .capacity) × (512 * countIn c ≤ length (c .dataIn)))
-  unfolding rangeRows pastEnd refuses
-  read-good = (
-    λ e. let d = sym (range-answers Read s c r) ∙ e in
-        (ltb-false _ _ (row-fails outOfRange _ _ tt d), ltb-false _ _ (row-fails Short _ _ tt (rows-after outOfRange _ _ tt d))),
-    λ h. range-answers Read s c r ∙ row-pass outOfRange _ _ (le-ltb _ _ (h .0)) ∙ row-pass Short _ _ (le-ltb _ _ (h .1)) ∙ row-end,
-  )
+  pub read-good : IsGood s c ↔ (Inside s (a .request) × (512 * countIn (a .request) ≤ length (c .dataIn)))
+  unfolding moveRows
+  read-good = decided-by (rows-answer Read s c a r) (read-passes (s .unit .capacity) _ _ (c .dataIn))
 
 -- ---- WRITE
 
-module _ (s : Store) (c : Call) (r : Reaches Write s c) where
-  pub write-past-end : s .unit .capacity < addressIn c + countIn c → step s c .seen .answer ≡ outOfRange
-  unfolding rangeRows pastEnd
-  write-past-end h = range-answers Write s c r ∙ row-stop outOfRange _ _ (lt-ltb _ _ h)
+module _ (s : Store) (c : Call) (a : Asks Write c) (r : Reaches s a) where
+  pub write-past-end : s .unit .capacity < addressIn (a .request) + countIn (a .request) → step s c .seen .answer ≡ outOfRange
+  unfolding moveRows writeRows pastEnd
+  write-past-end h = rows-answer Write s c a r ∙ row-stop outOfRange _ _ (lt-ltb _ _ h)
 
-  pub write-short : addressIn c + countIn c ≤ s .unit .capacity → length (c .dataOut) < 512 * countIn c → step s c .seen .answer ≡ Short
-  unfolding rangeRows pastEnd
-  write-short h l = range-answers Write s c r ∙ row-pass outOfRange _ _ (le-ltb _ _ h) ∙ row-stop Short _ _ (lt-ltb _ _ l)
+  pub write-short : Inside s (a .request) → length (c .dataOut) < 512 * countIn (a .request) → step s c .seen .answer ≡ Short
+  unfolding moveRows writeRows pastEnd
+  write-short h l = rows-answer Write s c a r ∙ row-pass outOfRange _ _ (le-ltb _ _ h) ∙ row-stop Short _ _ (lt-ltb _ _ l)
 
   -- "8": more unmapped blocks than free slots
-  pub write-no-room : addressIn c + countIn c ≤ s .unit .capacity → 512 * countIn c ≤ length (c .dataOut)
-      → free (s .pool .owners) < unmapped (s .pool .owners) (addressIn c) (countIn c) → step s c .seen .answer ≡ noRoom
-  unfolding rangeRows pastEnd roomFor
+  pub write-no-room : Inside s (a .request) → 512 * countIn (a .request) ≤ length (c .dataOut)
+      → free (s .pool .owners) < unmapped (s .pool .owners) (addressIn (a .request)) (countIn (a .request)) → step s c .seen .answer ≡ noRoom
+  unfolding moveRows writeRows pastEnd roomFor
   write-no-room h l n =
-      range-answers Write s c r ∙ row-pass outOfRange _ _ (le-ltb _ _ h) ∙ row-pass Short _ _ (le-ltb _ _ l) ∙ row-stop noRoom _ _ (ap not (lt-leb _ _ n))
+      rows-answer Write s c a r ∙ row-pass outOfRange _ _ (le-ltb _ _ h) ∙ row-pass Short _ _ (le-ltb _ _ l)
+      ∙ row-stop noRoom _ _ (ap not (lt-leb _ _ n))
 
-  pub write-good : IsGood s c ↔ ((addressIn c + countIn c ≤ s .unit .capacity) × (512 * countIn c ≤ length (c .dataOut)) × Room s c)
-  unfolding rangeRows pastEnd roomFor refuses
-  write-good = (
-    λ e. let d = sym (range-answers Write s c r) ∙ e in (
-      ltb-false _ _ (row-fails outOfRange _ _ tt d),
-      ltb-false _ _ (row-fails Short _ _ tt (rows-after outOfRange _ _ tt d)),
-      leb-true _ _ (not-false _ (row-fails noRoom _ _ tt (rows-after Short _ _ tt (rows-after outOfRange _ _ tt d)))),
-    ),
-    λ h. range-answers Write s c r ∙ row-pass outOfRange _ _ (le-ltb _ _ (h .0)) ∙ row-pass Short _ _ (le-ltb _ _ (h .1))
-        ∙ row-pass noRoom _ _ (ap not (le-leb _ _ (h .2))) ∙ row-end,
-  )
+  pub write-good : IsGood s c ↔ (Inside s (a .request) × (512 * countIn (a .request) ≤ length (c .dataOut)) × Room s (a .request))
+  unfolding moveRows
+  write-good = decided-by (rows-answer Write s c a r) (write-passes (s .unit .capacity) (s .pool .owners) _ _ (c .dataOut))
 
 -- ---- UNMAP: "10; list length 0 gives GOOD; length 1 to 7 gives 4; 12; more than 16 descriptors 5; 3 if any descriptor fails"
 
-module _ (s : Store) (c : Call) (r : Reaches Unmap s c) where
-  pub unmap-good : IsGood s c
-      ↔ (((leb 1 (countIn c) && leb (countIn c) 7) ≡ false) × (countIn c ≤ length (c .dataOut)) × (considered (countIn c) (c .dataOut) ≤ 16)
-      × (someFails (s .unit .capacity) (c .dataOut) 8 (considered (countIn c) (c .dataOut)) ≡ false))
-  unfolding rangeRows refuses
-  unmap-good = (
-    λ e. let d = sym (range-answers Unmap s c r) ∙ e in
-        let d′ = rows-after listLength _ _ tt d in
-        let d″ = rows-after Short _ _ tt d′ in (
-          row-fails listLength _ _ tt d,
-          ltb-false _ _ (row-fails Short _ _ tt d′),
-          ltb-false _ _ (row-fails listField _ _ tt d″),
-          row-fails outOfRange _ _ tt (rows-after listField _ _ tt d″),
-        ),
-    λ h. range-answers Unmap s c r ∙ row-pass listLength _ _ (h .0) ∙ row-pass Short _ _ (le-ltb _ _ (h .1))
-        ∙ row-pass listField _ _ (le-ltb _ _ (h .2)) ∙ row-pass outOfRange _ _ (h .3) ∙ row-end,
-  )
+pub unmap-good : (s : Store) (c : Call) (a : Asks Unmap c) → Reaches s a
+    → IsGood s c
+    ↔ (((leb 1 (listLengthIn (a .request)) && leb (listLengthIn (a .request)) 7) ≡ false)
+    × (listLengthIn (a .request) ≤ length (c .dataOut))
+    × (considered (listLengthIn (a .request)) (c .dataOut) ≤ 16)
+    × (someFails (s .unit .capacity) (c .dataOut) 8 (considered (listLengthIn (a .request)) (c .dataOut)) ≡ false))
+unfolding moveRows
+unmap-good s c a r = decided-by (rows-answer Unmap s c a r) (unmap-passes (s .unit .capacity) (listLengthIn (a .request)) (c .dataOut))
 
 -- ---- a READ of what a WRITE has written
 
 -- it is GOOD for every nexus that may read, with room for the data
-pub read-follows : (s : Store) (w r : Call) → Asks Write w → IsGood s w → Asks Read r → SameRange w r → byItself r ≡ Good
-    → conflict (s .unit .rights) (r .nexus) Reads ≡ false → 512 * countIn r ≤ length (r .dataIn) → IsGood (after step s w) r
-unfolding access rangeRows pastEnd refuses
-read-follows s w r a g b e t f l =
+pub read-follows : (s : Store) (w r : Call) (a : Asks Write w) (b : Asks Read r) → SameRange (a .request) (b .request) → IsGood s w → byItself r ≡ Good
+    → conflict (s .unit .rights) (r .nexus) Reads ≡ false → 512 * countIn (b .request) ≤ length (r .dataIn) → IsGood (after step s w) r
+unfolding access
+read-follows s w r a b e g t f l =
     let still : after step s w .unit ≡ s .unit = moves-unit Write s w a in
-    read-good (after step s w) r
-    (record { asks = b; store = usable-stays s w (good-usable s w g); call = t; free = ap (λ (u : Unit). conflict (u .rights) (r .nexus) Reads) still ∙ f })
+    read-good (after step s w) r b
+    (record { store = usable-stays s w (good-usable s w g); call = t; free = ap (λ (u : Unit). conflict (u .rights) (r .nexus) Reads) still ∙ f })
     .1 (
-      subst (λ (u : Unit). addressIn r + countIn r ≤ u .capacity) (sym still)
-          (rw (← e .address, ← e .count) (ltb-false _ _ (row-fails outOfRange _ _ tt (good-range Write s w a g)))),
+      subst (λ (u : Unit). addressIn (b .request) + countIn (b .request) ≤ u .capacity) (sym still) (rw (← e .address, ← e .count) (write-inside s w a g)),
       l,
     )
 
 -- ---- a READ of a fresh store
 
 pub fresh-read-good : (capacity slots : ℕ) (medium : List ℕ) (r : Call) → T (capacityOk capacity) → T (slotsOk slots) → length medium ≡ 512 * slots
-    → Asks Read r → byItself r ≡ Good → addressIn r + countIn r ≤ capacity → 512 * countIn r ≤ length (r .dataIn)
+    → (a : Asks Read r) → byItself r ≡ Good → addressIn (a .request) + countIn (a .request) ≤ capacity → 512 * countIn (a .request) ≤ length (r .dataIn)
     → IsGood (freshStore capacity slots medium) r
 unfolding freshStore freshUnit noRights access conflict stops isOneOf
 fresh-read-good capacity slots medium r x y e a t h l =
-    read-good (freshStore capacity slots medium) r (record { asks = a; store = fresh-usable capacity slots medium x y e; call = t; free = refl }) .1 (h, l)
+    read-good (freshStore capacity slots medium) r a (record { store = fresh-usable capacity slots medium x y e; call = t; free = refl }) .1 (h, l)

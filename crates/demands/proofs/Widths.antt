@@ -1,12 +1,13 @@
 -- The 10 and 16 byte forms of READ and WRITE: one law over the row of fields and its widths, and the two forms as its instances.
 -- Assumes nothing.
 use mathlib.Core.Path.{_≡_, refl, sym, ap, ap₂, _∙_}
-use mathlib.Core.List.{List, _∷_, _++_}
-use Prim.Native.Nat.{ℕ, _+_, _-_, _^_, _≤_, _<_}
+use mathlib.Core.Bool.{false}
+use mathlib.Core.List.{List, [], _∷_, _++_}
+use Prim.Native.Nat.{ℕ, _+_, _-_, _^_, _<_}
 use native.Mathlib.Omega.{arith}
 use native.Mathlib.Nat.{add-zero, mod-eq-of-lt, lt-of-lt-of-le}
 use borrow.Author.Tests.{ne-eqb, eq-eqb}
-use lib.Dec.{T, eqb, leb, lit≤}
+use lib.Dec.{T, eqb, leb, ltb, lit≤}
 use lib.ListN.{length}
 use lib.Seq.{drop-at}
 use Rattle.fields.specs.Bytes.{zeros}
@@ -14,108 +15,127 @@ use Rattle.fields.specs.Field.{byte, bit, field, bytes}
 use Rattle.fields.proofs.BytesLaws.{length-zeros}
 use Rattle.fields.proofs.FieldLaws.{field-drop, field-bytes, length-bytes}
 use Rattle.answers.specs.declared.Answer.{Answer}
-use Rattle.answers.specs.Order.{ifGood}
+use Rattle.answers.specs.declared.Answer.the-variants.{Unusable}
+use Rattle.answers.specs.Answers.{notListed, invalidField}
+use Rattle.answers.specs.Order.{_if_}
+use Rattle.pool.specs.Bounds.{mostTransfer}
+use Rattle.pool.specs.Pool.{Pool}
 use Rattle.forms.specs.declared.Move.{Move}
 use Rattle.forms.specs.declared.Move.the-variants.{Read, Write, Unmap}
 use Rattle.forms.specs.declared.Command.the-variants.{Moves}
+use Rattle.forms.specs.declared.Test.the-variants.{Protection, Count}
 use Rattle.forms.specs.declared.Form.{Form}
-use Rattle.forms.specs.Forms.{form, span, action, takes, lines, lookup, formFor, formOf, addressOf, sizeOf}
-use Rattle.forms.specs.Tests.{isUnlisted, transferRows, fieldRows, formRows}
-use Rattle.decoder.proofs.SoundLaws.{sound-of}
-use Rattle.store.specs.Store.{Store, Call, Seen, seenOf}
-use Rattle.store.specs.Move.{pastEnd, rangeRows, moveRows, moved, fetched}
-use Rattle.store.specs.Step.{callRows, ownRows, dataBy, storeBy, step}
-use Rattle.demands.specs.Contents.{Asks, isTransfer, SaysSame, transferCdb, cdb10, cdb16, callWith}
-use Rattle.demands.proofs.Parts.{answerAs}
-use Rattle.demands.proofs.Moving.{resultAs, step-as}
+use Rattle.forms.specs.declared.Service.the-variants.{Served}
+use Rattle.forms.specs.declared.Entry.{Entry}
+use Rattle.forms.specs.declared.Request.{Request}
+use Rattle.forms.specs.Forms.{two, four, eight, fieldNumber, form, action, takes, lines, listed, lookup, entryFor, entryOf, number, requestBy, askedBy, askedIn, askedOf, countIn}
+use Rattle.forms.specs.Tests.{isUnlisted, codeRows, lengthRows, fieldRows}
+use Rattle.forms.proofs.Fields.{isTransfer as isTransferCommand, Row, row-long, transfer-fields, asked-row}
+use Rattle.store.specs.Store.{Store, Call, Seen, withPool, leaves, seenOf}
+use Rattle.store.specs.Move.{moveRows, moved, fetched}
+use Rattle.store.specs.Step.{callRows, step}
+use Rattle.store.proofs.Parts.{SameRows, same-answer}
+use Rattle.store.proofs.StoreLaws.{step-seen, step-store}
+use Rattle.demands.specs.Contents.{Asks, SameRange, isTransfer, longOf, control, SaysSame, transferCdb, cdb10, cdb16, callWith}
+use Rattle.demands.proofs.Moving.{asks-guard, asks-rows, asks-data, asks-store, transfer-command}
 
--- ---- over any two rows of fields
+-- ---- one CDB by its row: it is as long as its code has it, its code is listed, and its fields are three
 
--- the calls c, read by the row f, and d, read by the row g, say the same
-record Agree (f g : Form) (c d : Call) : Type 0 where
-  address : addressOf f (c .cdb) ≡ addressOf g (d .cdb)
-  count : sizeOf f (c .cdb) ≡ sizeOf g (d .cdb)
-  empty : eqb (length (c .cdb)) 0 ≡ eqb (length (d .cdb)) 0
-  long : eqb (length (c .cdb)) (f .long) ≡ eqb (length (d .cdb)) (g .long)
-  flags : leb 32 (byte 1 (c .cdb)) ≡ leb 32 (byte 1 (d .cdb))
-  naca : bit 2 (byte (f .long - 1) (c .cdb)) ≡ bit 2 (byte (g .long - 1) (d .cdb))
-  nexus : c .nexus ≡ d .nexus
-  dataOut : c .dataOut ≡ d .dataOut
-  dataIn : c .dataIn ≡ d .dataIn
-  sense : c .sense ≡ d .sense
+module _ (m : Move) (t : T (isTransfer m)) (c : Call) (a : Asks m c) where
+  row : Row (entryOf (c .cdb)) (c .cdb) (a .request)
+  row = asked-row (c .cdb) (a .request) (a .is)
 
-module _ (f g : Form) (s : Store) (c d : Call) (e : Agree f g c d) where
-  call-same : callRows c ≡ callRows d
-  unfolding callRows
-  call-same = rw (e .nexus, e .empty, e .sense)
+  transfers : T (isTransferCommand (a .request .command))
+  transfers = rw (a .command) (transfer-command m t)
 
-  form-same : (m : Move) → T (isTransfer m) → formRows f (Moves m) (c .cdb) ≡ formRows g (Moves m) (d .cdb)
-  unfolding formRows fieldRows transferRows isTransfer
-  form-same Read t = rw (e .long, e .naca, e .flags, e .count)
-  form-same Write t = rw (e .long, e .naca, e .flags, e .count)
-  form-same Unmap t = absurd t
+  long-is : longOf (entryOf (c .cdb)) ≡ row .long
+  unfolding longOf
+  long-is = ap longOf (row .entry)
 
-  own-same : (m : Move) → T (isTransfer m) → ownRows f (Moves m) s c ≡ ownRows g (Moves m) s d
-  unfolding ownRows moveRows rangeRows pastEnd isTransfer
-  own-same Read t = rw (e .nexus, e .address, e .count, e .dataIn)
-  own-same Write t = rw (e .nexus, e .address, e .count, e .dataOut)
-  own-same Unmap t = absurd t
+  not-empty : length (c .cdb) ≡ longOf (entryOf (c .cdb)) → eqb (length (c .cdb)) 0 ≡ false
+  not-empty l =
+      let least = row-long (c .cdb) (a .request) row in
+      let whole = l ∙ long-is in
+      ne-eqb (length (c .cdb)) 0 (omega arith)
 
-  fetched-same : (m : Move) → T (isTransfer m) → fetched f m (s .pool) c ≡ fetched g m (s .pool) d
+  code-rows : codeRows (entryOf (c .cdb)) ≡ notListed if false ∷ []
+  unfolding codeRows isUnlisted
+  code-rows = ap codeRows (row .entry)
+
+  length-rows : length (c .cdb) ≡ longOf (entryOf (c .cdb)) → lengthRows (entryOf (c .cdb)) (c .cdb) ≡ Unusable if false ∷ []
+  unfolding lengthRows
+  length-rows l = rw (row .entry, eq-eqb _ _ (l ∙ long-is))
+
+  field-rows : fieldRows (entryOf (c .cdb)) (c .cdb)
+      ≡ invalidField if bit 2 (control c) ∷ invalidField if leb 32 (byte 1 (c .cdb)) ∷ invalidField if ltb mostTransfer (countIn (a .request)) ∷ []
+  field-rows = transfer-fields (c .cdb) (a .request) row transfers ∙ rw long-is
+
+-- ---- the same requests
+
+module _ (p q : Request) (e : SameRange p q) (c d : Call) (i : c .dataIn ≡ d .dataIn) (o : c .dataOut ≡ d .dataOut) where
+  rows-same : (m : Move) (capacity : ℕ) (x : Pool) → T (isTransfer m) → moveRows m p capacity x c ≡ moveRows m q capacity x d
+  unfolding moveRows isTransfer
+  rows-same Read capacity x t = rw (e .address, e .count, i)
+  rows-same Write capacity x t = rw (e .address, e .count, o)
+  rows-same Unmap capacity x t = absurd t
+
+  fetched-same : (m : Move) (x : Pool) → T (isTransfer m) → fetched m p x ≡ fetched m q x
   unfolding fetched isTransfer
-  fetched-same Read t = rw (e .address, e .count)
-  fetched-same Write t = refl
-  fetched-same Unmap t = absurd t
+  fetched-same Read x t = rw (e .address, e .count)
+  fetched-same Write x t = refl
+  fetched-same Unmap x t = absurd t
 
-  moved-same : (m : Move) → T (isTransfer m) → moved f m (s .pool) c ≡ moved g m (s .pool) d
+  moved-same : (m : Move) (x : Pool) → T (isTransfer m) → moved m p x c ≡ moved m q x d
   unfolding moved isTransfer
-  moved-same Read t = refl
-  moved-same Write t = rw (e .address, e .count, e .dataOut)
-  moved-same Unmap t = absurd t
-
-  seen-same : (a : Answer) (bs : List ℕ) → seenOf a bs c ≡ seenOf a bs d
-  unfolding seenOf
-  seen-same a bs = rw (e .dataIn, e .sense)
-
-  answer-same : (m : Move) → T (isTransfer m) → answerAs f (Moves m) s c ≡ answerAs g (Moves m) s d
-  answer-same m t = rw (call-same, form-same m t, own-same m t)
-
-  result-same : (m : Move) → T (isTransfer m) → resultAs f (Moves m) s c ≡ resultAs g (Moves m) s d
-  unfolding dataBy storeBy
-  result-same m t =
-      ap₂ (λ (x : Seen) (y : Store). record { seen = x; store = y })
-      (seen-same _ _ ∙ ap₂ (λ (a : Answer) (bs : List ℕ). seenOf a bs d) (answer-same m t) (fetched-same m t))
-      (ap₂ (λ (a : Answer) (p : _). ifGood a (record { unit = s .unit; pool = p }) s) (answer-same m t) (moved-same m t))
+  moved-same Read x t = refl
+  moved-same Write x t = rw (e .address, e .count, o)
+  moved-same Unmap x t = absurd t
 
 -- ---- of whole calls
 
-moves-long : (m : Move) (cdb : List ℕ) → formOf cdb .command ≡ Moves m → 1 ≤ formOf cdb .long
-unfolding isUnlisted
-moves-long m cdb e = sound-of cdb .long-least (ap isUnlisted e)
+module _ (m : Move) (t : T (isTransfer m)) (s : Store) (c d : Call) (a : Asks m c) (b : Asks m d) (e : SaysSame a b) where
+  call-same : callRows c ≡ callRows d
+  unfolding callRows
+  call-same = rw (e .nexus, not-empty m t c a (e .first-long), not-empty m t d b (e .second-long), e .sense)
 
-agree : (m : Move) (c d : Call) → Asks m c → Asks m d → SaysSame c d → Agree (formOf (c .cdb)) (formOf (d .cdb)) c d
-agree m c d a b e =
-    let x = moves-long m (c .cdb) a in
-    let y = moves-long m (d .cdb) b in
-    let p = e .first-long in
-    let q = e .second-long in
-    record {
-      address = e .range .address;
-      count = e .range .count;
-      empty = ne-eqb (length (c .cdb)) 0 (omega arith) ∙ sym (ne-eqb (length (d .cdb)) 0 (omega arith));
-      long = eq-eqb _ _ p ∙ sym (eq-eqb _ _ q);
-      flags = e .flags;
-      naca = e .naca;
-      nexus = e .nexus;
-      dataOut = e .dataOut;
-      dataIn = e .dataIn;
-      sense = e .sense;
-    }
+  field-same : fieldRows (entryOf (c .cdb)) (c .cdb) ≡ fieldRows (entryOf (d .cdb)) (d .cdb)
+  field-same = field-rows m t c a ∙ rw (e .naca, e .flags, e .range .count) (sym (field-rows m t d b))
+
+  rows-agree : SameRows s c d
+  rows-agree = record {
+    call = call-same;
+    code = code-rows m t c a ∙ sym (code-rows m t d b);
+    length = length-rows m t c a (e .first-long) ∙ sym (length-rows m t d b (e .second-long));
+    fields = field-same;
+    guard = asks-guard m c a (s .unit .rights) (c .nexus) ∙ rw (e .nexus) (sym (asks-guard m d b (s .unit .rights) (d .nexus)));
+    own = asks-rows m c a s
+        ∙ rows-same (a .request) (b .request) (e .range) c d (e .dataIn) (e .dataOut) m (s .unit .capacity) (s .pool) t
+        ∙ sym (asks-rows m d b s);
+  }
+
+  buffers-same : (x : Answer) (bs : List ℕ) → seenOf x bs c ≡ seenOf x bs d
+  unfolding seenOf
+  buffers-same x bs = rw (e .dataIn, e .sense)
+
+  seen-same : step s c .seen ≡ step s d .seen
+  seen-same =
+      step-seen s c
+      ∙ ap₂ (λ (x : Answer) (bs : List ℕ). seenOf x bs c) (same-answer s c d rows-agree)
+      (asks-data m c a s ∙ fetched-same (a .request) (b .request) (e .range) c d (e .dataIn) (e .dataOut) m (s .pool) t ∙ sym (asks-data m d b s))
+      ∙ buffers-same _ _
+      ∙ sym (step-seen s d)
+
+  store-same : step s c .store ≡ step s d .store
+  store-same =
+      step-store s c
+      ∙ ap₂ (λ (x : Answer) (y : Store). leaves x y s) (same-answer s c d rows-agree)
+      (asks-store m c a s ∙ ap (withPool s) (moved-same (a .request) (b .request) (e .range) c d (e .dataIn) (e .dataOut) m (s .pool) t) ∙ sym (asks-store m d b s))
+      ∙ sym (step-store s d)
 
 -- READs, or WRITEs, that say the same have the same result, whatever the form of each: all that is seen, and the store
-pub same-transfer : (m : Move) → T (isTransfer m) → (s : Store) (c d : Call) → Asks m c → Asks m d → SaysSame c d → step s c ≡ step s d
+pub same-transfer : (m : Move) → T (isTransfer m) → (s : Store) (c d : Call) (a : Asks m c) (b : Asks m d) → SaysSame a b → step s c ≡ step s d
 same-transfer m t s c d a b e =
-    step-as (Moves m) s c a ∙ result-same (formOf (c .cdb)) (formOf (d .cdb)) s c d (agree m c d a b e) m t ∙ sym (step-as (Moves m) s d b)
+    ap₂ (λ (x : Seen) (y : Store). record { seen = x; store = y }) (seen-same m t s c d a b e) (store-same m t s c d a b e)
 
 -- ---- the two forms
 
@@ -142,6 +162,18 @@ count-in code wide gap narrow rest address count h =
     ∙ ap (field 0 narrow) (drop-at (zeros gap) last gap (length-zeros gap))
     ∙ field-bytes narrow count (zeros rest) ∙ mod-eq-of-lt h
 
+-- a call that asks by a row of the table
+asks-by : (m : Move) (c : Call) (long : ℕ) (f : Form) → entryOf (c .cdb) ≡ listed long (Served f) → f .command ≡ Moves m → Asks m c
+unfolding askedOf askedIn askedBy requestBy
+asks-by m c long f e k = record { request = requestBy f (c .cdb); is = ap (λ (x : Entry). askedIn x (c .cdb)) e; command = k }
+
+-- the rows of the two forms
+abbrev row10 : Move → Entry
+row10 m = listed 10 (Served (form (Moves m) (four 2) (two 7) Protection Count))
+
+abbrev row16 : Move → Entry
+row16 m = listed 16 (Served (form (Moves m) (eight 2) (four 10) Protection Count))
+
 module _ (s : Store) (nexus address count : ℕ) (dataOut dataIn sense : List ℕ) (a : address < 256 ^ 4) (n : count < 256 ^ 2) where
   wider : address < 256 ^ 8
   wider = lt-of-lt-of-le a (lit≤ {m = 256 ^ 4} {n = 256 ^ 8} tt)
@@ -150,21 +182,19 @@ module _ (s : Store) (nexus address count : ℕ) (dataOut dataIn sense : List �
   more = lt-of-lt-of-le n (lit≤ {m = 256 ^ 2} {n = 256 ^ 4} tt)
 
   -- two codes whose rows are those of a 10 and of a 16 byte form
-  ten-sixteen : (m : Move) → T (isTransfer m) → (x y : ℕ) → formFor x 0 ≡ form (Moves m) 10 (span 2 4) (span 7 2) → formFor y 0 ≡ form (Moves m) 16 (span 2 8) (span 10 4)
+  ten-sixteen : (m : Move) → T (isTransfer m) → (x y : ℕ) → entryFor x 0 ≡ row10 m → entryFor y 0 ≡ row16 m
       → step s (callWith (cdb10 x address count) nexus dataOut dataIn sense) ≡ step s (callWith (cdb16 y address count) nexus dataOut dataIn sense)
-  unfolding cdb10 cdb16 transferCdb bytes zeros byte formOf action addressOf sizeOf
+  unfolding cdb10 cdb16 transferCdb bytes zeros byte entryOf action longOf asks-by requestBy number fieldNumber
   ten-sixteen m t x y p q =
-      same-transfer m t s _ _ (ap (λ (f : Form). f .command) p) (ap (λ (f : Form). f .command) q) (record {
+      same-transfer m t s _ _ (asks-by m _ 10 _ p refl) (asks-by m _ 16 _ q refl) (record {
         range = record {
-          address = ap (λ (f : Form). addressOf f (cdb10 x address count)) p ∙ address-in x 4 1 2 1 address count a
-              ∙ sym (ap (λ (f : Form). addressOf f (cdb16 y address count)) q ∙ address-in y 8 0 4 2 address count wider);
-          count = ap (λ (f : Form). sizeOf f (cdb10 x address count)) p ∙ count-in x 4 1 2 1 address count n
-              ∙ sym (ap (λ (f : Form). sizeOf f (cdb16 y address count)) q ∙ count-in y 8 0 4 2 address count more);
+          address = address-in x 4 1 2 1 address count a ∙ sym (address-in y 8 0 4 2 address count wider);
+          count = count-in x 4 1 2 1 address count n ∙ sym (count-in y 8 0 4 2 address count more);
         };
-        first-long = sym (ap (λ (f : Form). f .long) p);
-        second-long = sym (ap (λ (f : Form). f .long) q);
+        first-long = sym (ap longOf p);
+        second-long = sym (ap longOf q);
         flags = refl;
-        naca = ap (λ (f : Form). bit 2 (byte (f .long - 1) (cdb10 x address count))) p ∙ sym (ap (λ (f : Form). bit 2 (byte (f .long - 1) (cdb16 y address count))) q);
+        naca = ap (λ (e : Entry). bit 2 (byte (longOf e - 1) (cdb10 x address count))) p ∙ sym (ap (λ (e : Entry). bit 2 (byte (longOf e - 1) (cdb16 y address count))) q);
         nexus = refl;
         dataOut = refl;
         dataIn = refl;
@@ -173,9 +203,9 @@ module _ (s : Store) (nexus address count : ℕ) (dataOut dataIn sense : List �
 
   -- READ(10) and READ(16), and WRITE(10) and WRITE(16), of the same blocks have the same result
   pub read-forms : step s (callWith (cdb10 0x28 address count) nexus dataOut dataIn sense) ≡ step s (callWith (cdb16 0x88 address count) nexus dataOut dataIn sense)
-  unfolding formFor lines lookup takes isTransfer
+  unfolding entryFor lines lookup takes isTransfer
   read-forms = ten-sixteen Read tt 0x28 0x88 refl refl
 
   pub write-forms : step s (callWith (cdb10 0x2A address count) nexus dataOut dataIn sense) ≡ step s (callWith (cdb16 0x8A address count) nexus dataOut dataIn sense)
-  unfolding formFor lines lookup takes isTransfer
+  unfolding entryFor lines lookup takes isTransfer
   write-forms = ten-sixteen Write tt 0x2A 0x8A refl refl

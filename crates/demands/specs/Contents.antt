@@ -10,8 +10,8 @@ use Rattle.fields.specs.Bytes.{zeros}
 use Rattle.fields.specs.Field.{byte, bit, bytes}
 use Rattle.answers.specs.declared.Answer.{Answer}
 use Rattle.answers.specs.declared.Answer.the-variants.{Good}
-use Rattle.answers.specs.Order.{first, next}
-use Rattle.pool.specs.Pool.{Pool, free, unmapped, unmapBlocks}
+use Rattle.answers.specs.Order.{first}
+use Rattle.pool.specs.Pool.{Pool, free, unmapped, readBlocks, unmapBlocks}
 use Rattle.pool.specs.Alike.{Alike}
 use Rattle.descriptors.specs.declared.Descriptor.{Descriptor}
 use Rattle.descriptors.specs.Descriptors.{descriptorAt, considered}
@@ -19,8 +19,11 @@ use Rattle.rights.specs.Conflict.{conflict}
 use Rattle.forms.specs.declared.Move.{Move}
 use Rattle.forms.specs.declared.Move.the-variants.{Read, Write, Unmap}
 use Rattle.forms.specs.declared.Command.the-variants.{Moves}
-use Rattle.forms.specs.Forms.{formOf, addressOf, sizeOf}
-use Rattle.forms.specs.Tests.{formRows}
+use Rattle.forms.specs.declared.Entry.{Entry}
+use Rattle.forms.specs.declared.Entry.the-variants.{Listed, Unlisted}
+use Rattle.forms.specs.declared.Request.{Request}
+use Rattle.forms.specs.Forms.{entryOf, asks, askedOf, countIn, listLengthIn}
+use Rattle.forms.specs.Tests.{codeRows, lengthRows, fieldRows}
 use Rattle.store.specs.Store.{Store, Call, Seen, usable}
 use Rattle.store.specs.Move.{access}
 use Rattle.store.specs.Step.{callRows, step}
@@ -28,35 +31,42 @@ use Rattle.demands.specs.History.{Build, after}
 
 -- ---- a call on the blocks
 
--- it is a READ, a WRITE or an UNMAP, in whichever of its forms
-abbrev pub Asks : Move → Call → Type 0
-Asks m c = formOf (c .cdb) .command ≡ Moves m
+-- it is a READ, a WRITE or an UNMAP, in whichever of its forms; and what it asks for
+pub record Asks (m : Move) (c : Call) : Type 0 where
+  pub request : Request
+  pub is : askedOf (c .cdb) ≡ asks request
+  pub command : request .command ≡ Moves m
 
--- its first block, and how many there are, as its own row of fields has them
-abbrev pub addressIn : Call → ℕ
-addressIn c = addressOf (formOf (c .cdb)) (c .cdb)
+-- the first block that is asked for; `countIn` says how many there are
+abbrev pub addressIn : Request → ℕ
+addressIn q = q .address .0
 
-abbrev pub countIn : Call → ℕ
-countIn c = sizeOf (formOf (c .cdb)) (c .cdb)
+-- what the blocks that are asked for hold
+abbrev pub blocksIn : Pool → Request → List ℕ
+blocksIn p q = readBlocks p (addressIn q) (countIn q)
 
 -- the answer is GOOD
 abbrev pub IsGood : Store → Call → Type 0
 IsGood s c = step s c .seen .answer ≡ Good
 
--- what the tests of a call by itself answer: who calls, the buffers, and the fields of the CDB
+-- what the tests of a call by itself answer: who calls, the buffers, and the code, length and fields of the CDB
 unfoldable pub byItself : Call → Answer
-byItself c = next (first (callRows c)) (first (formRows (formOf (c .cdb)) (formOf (c .cdb) .command) (c .cdb)))
+byItself c =
+    first (callRows c ++ (codeRows (entryOf (c .cdb)) ++ (lengthRows (entryOf (c .cdb)) (c .cdb) ++ fieldRows (entryOf (c .cdb)) (c .cdb))))
 
 -- it comes as far as the command's own tests: the store is usable, the call is right by itself, and no reservation is in its way
-pub record Reaches (m : Move) (s : Store) (c : Call) : Type 0 where
-  pub asks : Asks m c
+pub record Reaches {m : Move} {c : Call} (s : Store) (a : Asks m c) : Type 0 where
   pub store : T (usable s)
   pub call : byItself c ≡ Good
   pub free : conflict (s .unit .rights) (c .nexus) (access m) ≡ false
 
+-- its blocks lie within the capacity
+abbrev pub Inside : Store → Request → Type 0
+Inside s q = addressIn q + countIn q ≤ s .unit .capacity
+
 -- there are free slots for all that a WRITE maps
-abbrev pub Room : Store → Call → Type 0
-Room s c = unmapped (s .pool .owners) (addressIn c) (countIn c) ≤ free (s .pool .owners)
+abbrev pub Room : Store → Request → Type 0
+Room s q = unmapped (s .pool .owners) (addressIn q) (countIn q) ≤ free (s .pool .owners)
 
 -- ---- ranges of blocks
 
@@ -64,14 +74,14 @@ Room s c = unmapped (s .pool .owners) (addressIn c) (countIn c) ≤ free (s .poo
 abbrev pub Outside : ℕ → ℕ → ℕ → Type 0
 Outside a n b = a ≤ b → a + n ≤ b
 
--- two calls name the same blocks
-pub record SameRange (c d : Call) : Type 0 where
-  pub address : addressIn c ≡ addressIn d
-  pub count : countIn c ≡ countIn d
+-- two requests name the same blocks
+pub record SameRange (p q : Request) : Type 0 where
+  pub address : addressIn p ≡ addressIn q
+  pub count : countIn p ≡ countIn q
 
--- two calls have no block in common
-abbrev pub Apart : Call → Call → Type 0
-Apart c d = (i : ℕ) → i < countIn d → Outside (addressIn c) (countIn c) (addressIn d + i)
+-- two requests have no block in common
+abbrev pub Apart : Request → Request → Type 0
+Apart p q = (i : ℕ) → i < countIn q → Outside (addressIn p) (countIn p) (addressIn q + i)
 
 -- ---- the same transfer in different forms
 
@@ -81,16 +91,21 @@ isTransfer Read = true
 isTransfer Write = true
 isTransfer Unmap = false
 
+-- how long a CDB is, as its code has it
+unfoldable pub longOf : Entry → ℕ
+longOf (Listed code) = code .long
+longOf Unlisted = 0
+
 -- the control byte: the CDB's last by its code's length
 abbrev pub control : Call → ℕ
-control c = byte (formOf (c .cdb) .long - 1) (c .cdb)
+control c = byte (longOf (entryOf (c .cdb)) - 1) (c .cdb)
 
 -- two calls with CDBs of whichever form that say the same: each as long as its code has it, the same blocks, byte 1's upper bits and NACA alike,
 -- from the same nexus and with the same buffers
-pub record SaysSame (c d : Call) : Type 0 where
-  pub range : SameRange c d
-  pub first-long : length (c .cdb) ≡ formOf (c .cdb) .long
-  pub second-long : length (d .cdb) ≡ formOf (d .cdb) .long
+pub record SaysSame {m : Move} {c d : Call} (a : Asks m c) (b : Asks m d) : Type 0 where
+  pub range : SameRange (a .request) (b .request)
+  pub first-long : length (c .cdb) ≡ longOf (entryOf (c .cdb))
+  pub second-long : length (d .cdb) ≡ longOf (entryOf (d .cdb))
   pub flags : leb 32 (byte 1 (c .cdb)) ≡ leb 32 (byte 1 (d .cdb))
   pub naca : bit 2 (control c) ≡ bit 2 (control d)
   pub nexus : c .nexus ≡ d .nexus
@@ -123,8 +138,8 @@ descriptorsFrom list at zero = []
 descriptorsFrom list at (suc n) = descriptorAt list at ∷ descriptorsFrom list (at + 16) n
 
 -- "descriptors from byte 8"; those that are considered
-unfoldable pub descriptorsOf : Call → List Descriptor
-descriptorsOf c = descriptorsFrom (c .dataOut) 8 (considered (countIn c) (c .dataOut))
+unfoldable pub descriptorsOf : Request → List ℕ → List Descriptor
+descriptorsOf q list = descriptorsFrom list 8 (considered (listLengthIn q) list)
 
 -- the pool after they act, one after another
 unfoldable pub unmapEach : Pool → List Descriptor → Pool

@@ -16,12 +16,13 @@ use Rattle.pool.specs.Pool.{readBlock}
 use Rattle.pool.specs.Valid.{checked}
 use Rattle.forms.specs.declared.Move.{Move}
 use Rattle.forms.specs.declared.Move.the-variants.{Read, Write, Unmap}
+use Rattle.forms.specs.Forms.{countIn}
 use Rattle.store.specs.Store.{Store, Call, usable, seenOf}
 use Rattle.store.specs.Fresh.{freshStore}
 use Rattle.store.specs.Step.{step}
 use Rattle.demands.specs.History.{Build, after, isOut, isShutOut, watched, heard}
 use Rattle.demands.specs.Checker.{allPassed}
-use Rattle.demands.specs.Contents.{Asks, IsGood, countIn, SameRange, Apart, descriptorsOf, names, Same, seenAll, isTransfer, SaysSame}
+use Rattle.demands.specs.Contents.{Asks, IsGood, SameRange, Apart, descriptorsOf, names, Same, seenAll, isTransfer, SaysSame}
 use Rattle.demands.specs.Cases.{cases}
 use Rattle.demands.specs.Generation.{generation, raising}
 
@@ -60,20 +61,22 @@ pub record Demand2 (f : Build) : Type 0 where
 -- Demand 2 as those put it who write and read: what the meaning, `step`, says of blocks.
 pub record Storage : Type 0 where
   -- a READ after a WRITE of the same blocks, each in whichever form and by whomever, returns the data written
-  pub write-then-read : (s : Store) (w r : Call) → Asks Write w → Asks Read r → SameRange w r → IsGood s w → IsGood (after step s w) r
-      → take (512 * countIn w) (step (after step s w) r .seen .dataIn) ≡ take (512 * countIn w) (w .dataOut)
+  pub write-then-read : (s : Store) (w r : Call) (a : Asks Write w) (b : Asks Read r) → SameRange (a .request) (b .request)
+      → IsGood s w → IsGood (after step s w) r
+      → take (512 * countIn (a .request)) (step (after step s w) r .seen .dataIn) ≡ take (512 * countIn (a .request)) (w .dataOut)
   -- a READ of other blocks sees nothing of a WRITE
-  pub write-keeps-others : (s : Store) (w r : Call) → Asks Write w → Asks Read r → Apart w r → step (after step s w) r .seen ≡ step s r .seen
+  pub write-keeps-others : (s : Store) (w r : Call) (a : Asks Write w) (b : Asks Read r) → Apart (a .request) (b .request)
+      → step (after step s w) r .seen ≡ step s r .seen
   -- after an UNMAP the blocks that a considered descriptor names read as zeros, and all others as before
-  pub unmap-contents : (s : Store) (c : Call) → Asks Unmap c → IsGood s c → (b : ℕ)
-      → readBlock (after step s c .pool) b ≡ cond (names (descriptorsOf c) b) (zeros 512) (readBlock (s .pool) b)
+  pub unmap-contents : (s : Store) (c : Call) (a : Asks Unmap c) → IsGood s c → (b : ℕ)
+      → readBlock (after step s c .pool) b ≡ cond (names (descriptorsOf (a .request) (c .dataOut)) b) (zeros 512) (readBlock (s .pool) b)
   -- a fresh store reads as zeros, whatever lies in its medium
-  pub fresh-reads-zeros : (capacity slots : ℕ) (medium : List ℕ) (r : Call) → Asks Read r → IsGood (freshStore capacity slots medium) r
-      → step (freshStore capacity slots medium) r .seen ≡ seenOf Good (zeros (512 * countIn r)) r
+  pub fresh-reads-zeros : (capacity slots : ℕ) (medium : List ℕ) (r : Call) (a : Asks Read r) → IsGood (freshStore capacity slots medium) r
+      → step (freshStore capacity slots medium) r .seen ≡ seenOf Good (zeros (512 * countIn (a .request))) r
   -- slots do not matter: stores that agree on the unit's record, on contents and on free slots answer alike for ever
   pub slots-hidden : (s t : Store) → T (usable s) → T (usable t) → Same s t → (cs : List Call) → seenAll step s cs ≡ seenAll step t cs
   -- "The shared fact for 10 and 16 byte forms is proved once over field width."
-  pub forms-agree : (m : Move) → T (isTransfer m) → (s : Store) (c d : Call) → Asks m c → Asks m d → SaysSame c d → step s c ≡ step s d
+  pub forms-agree : (m : Move) → T (isTransfer m) → (s : Store) (c d : Call) (a : Asks m c) (b : Asks m d) → SaysSame a b → step s c ≡ step s d
   -- "no two slots name one block": a map with a slot beyond the capacity or a clash is refused, and every usable store's passes its check
   pub clash-refused : (s : Store) (c : Call) → checked (s .unit .capacity) (s .pool .owners) ≢ Valid → step s c .seen .answer ≡ Unusable
   pub usable-checked : (s : Store) → T (usable s) → checked (s .unit .capacity) (s .pool .owners) ≡ Valid

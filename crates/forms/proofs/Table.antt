@@ -8,10 +8,13 @@ use lib.Dec.{T, eqb, eqb→eq}
 use Rattle.fields.specs.Field.{byte}
 use Rattle.fields.proofs.Tests.{and-l, and-r, or-other, nand-rest, not-not-intro, true→T}
 use Rattle.forms.specs.declared.Command.{Command}
-use Rattle.forms.specs.declared.Command.the-variants.{Tells, Moves, Alters, Unknown, Unlisted}
+use Rattle.forms.specs.declared.Command.the-variants.{Tells, Moves, Alters}
 use Rattle.forms.specs.declared.Form.{Form}
-use Rattle.forms.specs.Forms.{form, absent, Line, takes, lines, lookup, formFor, formOf, action}
-use Rattle.forms.specs.Tests.{isUnlisted}
+use Rattle.forms.specs.declared.Service.{Service}
+use Rattle.forms.specs.declared.Service.the-variants.{Served, Other}
+use Rattle.forms.specs.declared.Entry.{Entry}
+use Rattle.forms.specs.declared.Entry.the-variants.{Listed, Unlisted}
+use Rattle.forms.specs.Forms.{Line, takes, lines, listed, lookup, entryFor, entryOf, action, requestBy, Asked, nothing, asks, askedBy, askedIn, askedOf}
 
 -- a test of every line
 unfoldable pub all : (Line → Bool) → List Line → Bool
@@ -24,15 +27,15 @@ unfoldable pub lists : ℕ → List Line → Bool
 lists n [] = false
 lists n (l ∷ ls) = eqb n (l .code) || lists n ls
 
-pub lookup-skips : (n a : ℕ) (f : Form) (ls : List Line) → lists n ls ≡ false → lookup n a f ls ≡ f
+pub lookup-skips : (n a : ℕ) (e : Entry) (ls : List Line) → lists n ls ≡ false → lookup n a e ls ≡ e
 unfolding lists lookup
-lookup-skips n a f [] e = refl
-lookup-skips n a f (l ∷ ls) e = go (eqb n (l .code)) (lists n ls) e (lookup-skips n a f ls)
+lookup-skips n a e [] h = refl
+lookup-skips n a e (l ∷ ls) h = go (eqb n (l .code)) (lists n ls) h (lookup-skips n a e ls)
   where
-    go : (b z : Bool) → (b || z) ≡ false → (z ≡ false → lookup n a f ls ≡ f)
-        → elim b [ false ↦ lookup n a f ls | true ↦ elim (takes (l .actions) a) [ true ↦ l .form | false ↦ lookup n a (form Unknown (l .form .long) absent absent) ls ] ] ≡ f
-    go true z e ih = absurd (true≢false e)
-    go false z e ih = ih e
+    go : (b z : Bool) → (b || z) ≡ false → (z ≡ false → lookup n a e ls ≡ e)
+        → elim b [ false ↦ lookup n a e ls | true ↦ elim (takes (l .actions) a) [ true ↦ listed (l .long) (Served (l .form)) | false ↦ lookup n a (listed (l .long) Other) ls ] ] ≡ e
+    go true z h ih = absurd (true≢false h)
+    go false z h ih = ih h
 
 -- ---- a code whose lines do not take the action
 
@@ -41,55 +44,86 @@ taken n a [] = false
 taken n a (l ∷ ls) = (eqb n (l .code) && takes (l .actions) a) || taken n a ls
 
 -- what is found once every line is passed
-unfoldable pub passed : ℕ → Form → List Line → Form
-passed n f [] = f
-passed n f (l ∷ ls) = passed n (cond (eqb n (l .code)) (form Unknown (l .form .long) absent absent) f) ls
+unfoldable pub passed : ℕ → Entry → List Line → Entry
+passed n e [] = e
+passed n e (l ∷ ls) = passed n (cond (eqb n (l .code)) (listed (l .long) Other) e) ls
 
-pub lookup-passes : (n a : ℕ) (f : Form) (ls : List Line) → taken n a ls ≡ false → lookup n a f ls ≡ passed n f ls
+pub lookup-passes : (n a : ℕ) (e : Entry) (ls : List Line) → taken n a ls ≡ false → lookup n a e ls ≡ passed n e ls
 unfolding taken passed lookup
-lookup-passes n a f [] e = refl
-lookup-passes n a f (l ∷ ls) e = go (eqb n (l .code)) (takes (l .actions) a) e (lookup-passes n a f ls) (lookup-passes n a other ls)
+lookup-passes n a e [] h = refl
+lookup-passes n a e (l ∷ ls) h = go (eqb n (l .code)) (takes (l .actions) a) h (lookup-passes n a e ls) (lookup-passes n a (listed (l .long) Other) ls)
   where
-    other : Form
-    other = form Unknown (l .form .long) absent absent
-
-    go : (b z : Bool) → ((b && z) || taken n a ls) ≡ false → (taken n a ls ≡ false → lookup n a f ls ≡ passed n f ls)
-        → (taken n a ls ≡ false → lookup n a other ls ≡ passed n other ls)
-        → elim b [ false ↦ lookup n a f ls | true ↦ elim z [ true ↦ l .form | false ↦ lookup n a other ls ] ] ≡ passed n (cond b other f) ls
-    go false z e x y = x e
-    go true true e x y = absurd (true≢false e)
-    go true false e x y = y e
+    go : (b z : Bool) → ((b && z) || taken n a ls) ≡ false → (taken n a ls ≡ false → lookup n a e ls ≡ passed n e ls)
+        → (taken n a ls ≡ false → lookup n a (listed (l .long) Other) ls ≡ passed n (listed (l .long) Other) ls)
+        → elim b [ false ↦ lookup n a e ls | true ↦ elim z [ true ↦ listed (l .long) (Served (l .form)) | false ↦ lookup n a (listed (l .long) Other) ls ] ]
+        ≡ passed n (cond b (listed (l .long) Other) e) ls
+    go false z h x y = x h
+    go true true h x y = absurd (true≢false h)
+    go true false h x y = y h
 
 -- ---- rules
 
--- A rule of what was found before, and of every line and its unknown actions, is a rule of what is looked up.
-module _ (P : ℕ → Form → Bool) where
+-- A rule of what was found before, and of every line and its other actions, is a rule of what is looked up.
+module _ (P : ℕ → Entry → Bool) where
   unfoldable pub obeys : Line → Bool
-  obeys l = P (l .code) (l .form) && P (l .code) (form Unknown (l .form .long) absent absent)
+  obeys l = P (l .code) (listed (l .long) (Served (l .form))) && P (l .code) (listed (l .long) Other)
 
-  pub looked-up : (n a : ℕ) (f : Form) (ls : List Line) → T (P n f) → T (all obeys ls) → T (P n (lookup n a f ls))
+  pub looked-up : (n a : ℕ) (e : Entry) (ls : List Line) → T (P n e) → T (all obeys ls) → T (P n (lookup n a e ls))
   unfolding lookup all obeys
-  looked-up n a f [] h t = h
-  looked-up n a f (l ∷ ls) h t =
-      go (eqb n (l .code)) refl (takes (l .actions) a) (looked-up n a f ls h rest) (λ y. looked-up n a other ls y rest)
+  looked-up n a e [] h t = h
+  looked-up n a e (l ∷ ls) h t =
+      go (eqb n (l .code)) refl (takes (l .actions) a) (looked-up n a e ls h rest) (λ y. looked-up n a other ls y rest)
     where
-      other : Form
-      other = form Unknown (l .form .long) absent absent
+      row : Entry
+      row = listed (l .long) (Served (l .form))
+
+      other : Entry
+      other = listed (l .long) Other
 
       rest : T (all obeys ls)
       rest = and-r (obeys l) (all obeys ls) t
 
-      here : T (P (l .code) (l .form) && P (l .code) other)
+      here : T (P (l .code) row && P (l .code) other)
       here = and-l (obeys l) (all obeys ls) t
 
-      at : (g : Form) → eqb n (l .code) ≡ true → T (P (l .code) g) → T (P n g)
-      at g e = subst (λ (m : ℕ). T (P m g)) (sym (eqb→eq n (l .code) (true→T _ e)))
+      at : (g : Entry) → eqb n (l .code) ≡ true → T (P (l .code) g) → T (P n g)
+      at g q = subst (λ (m : ℕ). T (P m g)) (sym (eqb→eq n (l .code) (true→T _ q)))
 
-      go : (b : Bool) → eqb n (l .code) ≡ b → (z : Bool) → T (P n (lookup n a f ls)) → (T (P n other) → T (P n (lookup n a other ls)))
-          → T (P n (elim b [ false ↦ lookup n a f ls | true ↦ elim z [ true ↦ l .form | false ↦ lookup n a other ls ] ]))
-      go false e z x y = x
-      go true e true x y = at (l .form) e (and-l (P (l .code) (l .form)) (P (l .code) other) here)
-      go true e false x y = y (at other e (and-r (P (l .code) (l .form)) (P (l .code) other) here))
+      go : (b : Bool) → eqb n (l .code) ≡ b → (z : Bool) → T (P n (lookup n a e ls)) → (T (P n other) → T (P n (lookup n a other ls)))
+          → T (P n (elim b [ false ↦ lookup n a e ls | true ↦ elim z [ true ↦ row | false ↦ lookup n a other ls ] ]))
+      go false q z x y = x
+      go true q true x y = at row q (and-l (P (l .code) row) (P (l .code) other) here)
+      go true q false x y = y (at other q (and-r (P (l .code) row) (P (l .code) other) here))
+
+-- a rule of rows alone
+unfoldable pub serviceRule : (Form → Bool) → Service → Bool
+serviceRule P (Served f) = P f
+serviceRule P Other = true
+
+unfoldable pub rowRule : (Form → Bool) → Entry → Bool
+rowRule P (Listed code) = serviceRule P (code .service)
+rowRule P Unlisted = true
+
+-- whether the table serves what is asked for
+unfoldable pub isNothing : Asked → Bool
+isNothing nothing = true
+isNothing (asks r) = false
+
+-- a rule of commands is one of what is asked for
+unfoldable pub askedRule : (Command → Bool) → Asked → Bool
+askedRule P nothing = true
+askedRule P (asks r) = P (r .command)
+
+module _ (P : Command → Bool) where
+  service-obeys : (v : Service) (cdb : List ℕ) → T (serviceRule (λ f. P (f .command)) v) → T (askedRule P (askedBy v cdb))
+  unfolding serviceRule askedBy requestBy askedRule
+  service-obeys (Served f) cdb t = t
+  service-obeys Other cdb t = tt
+
+  pub asked-obeys : (e : Entry) (cdb : List ℕ) → T (rowRule (λ f. P (f .command)) e) → T (askedRule P (askedIn e cdb))
+  unfolding rowRule askedIn askedRule
+  asked-obeys (Listed code) cdb t = service-obeys (code .service) cdb t
+  asked-obeys Unlisted cdb t = tt
 
 -- ---- which codes alter rights
 
@@ -97,53 +131,66 @@ unfoldable pub isMoves : Command → Bool
 isMoves (Tells t) = false
 isMoves (Moves m) = true
 isMoves (Alters a) = false
-isMoves Unknown = false
-isMoves Unlisted = false
 
 unfoldable pub isAlters : Command → Bool
 isAlters (Tells t) = false
 isAlters (Moves m) = false
 isAlters (Alters a) = true
-isAlters Unknown = false
-isAlters Unlisted = false
+
+-- is a command on the blocks asked for, or one that alters rights
+unfoldable pub movesIn : Asked → Bool
+movesIn nothing = false
+movesIn (asks r) = isMoves (r .command)
+
+unfoldable pub altersIn : Asked → Bool
+altersIn nothing = false
+altersIn (asks r) = isAlters (r .command)
 
 -- 5Fh and no other code alters rights, and it moves nothing
-unfoldable outRule : ℕ → Form → Bool
-outRule n f = (not (isAlters (f .command)) || eqb n 0x5F) && not (isMoves (f .command) && eqb n 0x5F)
+unfoldable outCommand : ℕ → Command → Bool
+outCommand n k = (not (isAlters k) || eqb n 0x5F) && not (isMoves k && eqb n 0x5F)
 
-out-rule : (cdb : List ℕ) → T (outRule (byte 0 cdb) (formOf cdb))
-unfolding formOf formFor lines outRule all obeys isMoves isAlters
-out-rule cdb = looked-up outRule (byte 0 cdb) (action cdb) (form Unlisted 0 absent absent) lines tt tt
+out-rule : (cdb : List ℕ) → T (rowRule (λ f. outCommand (byte 0 cdb) (f .command)) (entryOf cdb))
+unfolding entryOf entryFor lines rowRule serviceRule outCommand all obeys isMoves isAlters
+out-rule cdb = looked-up (λ n e. rowRule (λ f. outCommand n (f .command)) e) (byte 0 cdb) (action cdb) Unlisted lines tt tt
+
+module _ (n : ℕ) where
+  alters-out : (x : Asked) → T (askedRule (outCommand n) x) → T (altersIn x) → T (eqb n 0x5F)
+  unfolding askedRule altersIn outCommand
+  alters-out nothing t h = absurd h
+  alters-out (asks r) t h =
+      or-other (not (isAlters (r .command))) (eqb n 0x5F) (not-not-intro (isAlters (r .command)) h)
+      (and-l (not (isAlters (r .command)) || eqb n 0x5F) (not (isMoves (r .command) && eqb n 0x5F)) t)
+
+  moves-other : (x : Asked) → T (askedRule (outCommand n) x) → T (movesIn x) → T (not (eqb n 0x5F))
+  unfolding askedRule movesIn outCommand
+  moves-other nothing t h = absurd h
+  moves-other (asks r) t h =
+      nand-rest (isMoves (r .command)) (eqb n 0x5F) h
+      (and-r (not (isAlters (r .command)) || eqb n 0x5F) (not (isMoves (r .command) && eqb n 0x5F)) t)
 
 module _ (cdb : List ℕ) where
-  pub alters-code : T (isAlters (formOf cdb .command)) → T (eqb (byte 0 cdb) 0x5F)
-  unfolding outRule
-  alters-code h =
-      or-other (not (isAlters (formOf cdb .command))) (eqb (byte 0 cdb) 0x5F) (not-not-intro (isAlters (formOf cdb .command)) h)
-      (and-l (not (isAlters (formOf cdb .command)) || eqb (byte 0 cdb) 0x5F) (not (isMoves (formOf cdb .command) && eqb (byte 0 cdb) 0x5F)) (out-rule cdb))
+  out-asked : T (askedRule (outCommand (byte 0 cdb)) (askedOf cdb))
+  unfolding askedOf
+  out-asked = asked-obeys (outCommand (byte 0 cdb)) (entryOf cdb) cdb (out-rule cdb)
 
-  pub moves-code : T (isMoves (formOf cdb .command)) → T (not (eqb (byte 0 cdb) 0x5F))
-  unfolding outRule
-  moves-code h =
-      nand-rest (isMoves (formOf cdb .command)) (eqb (byte 0 cdb) 0x5F) h
-      (and-r (not (isAlters (formOf cdb .command)) || eqb (byte 0 cdb) 0x5F) (not (isMoves (formOf cdb .command) && eqb (byte 0 cdb) 0x5F)) (out-rule cdb))
+  pub alters-code : T (altersIn (askedOf cdb)) → T (eqb (byte 0 cdb) 0x5F)
+  alters-code = alters-out (byte 0 cdb) (askedOf cdb) out-asked
+
+  pub moves-code : T (movesIn (askedOf cdb)) → T (not (eqb (byte 0 cdb) 0x5F))
+  moves-code = moves-other (byte 0 cdb) (askedOf cdb) out-asked
 
 -- ---- lengths
 
--- "6, 10 or 16 as its code has it"; a code that is not listed has none
-unfoldable pub longRule : Form → Bool
-longRule f = cond (isUnlisted (f .command)) (eqb (f .long) 0) (eqb (f .long) 6 || (eqb (f .long) 10 || eqb (f .long) 16))
+-- "6, 10 or 16 as its code has it"
+unfoldable pub longRule : Entry → Bool
+longRule (Listed code) = eqb (code .long) 6 || (eqb (code .long) 10 || eqb (code .long) 16)
+longRule Unlisted = true
 
-pub long-rule : (cdb : List ℕ) → T (longRule (formOf cdb))
-unfolding formOf formFor lines longRule all obeys isUnlisted
-long-rule cdb = looked-up (λ _ f. longRule f) (byte 0 cdb) (action cdb) (form Unlisted 0 absent absent) lines tt tt
+pub long-for : (n a : ℕ) → T (longRule (entryFor n a))
+unfolding entryFor lines longRule all obeys
+long-for n a = looked-up (λ _ e. longRule e) n a Unlisted lines tt tt
 
--- ---- the 10 and 16 byte forms of READ and WRITE differ in length and fields alone
-
-pub read-command : (a b : ℕ) → formFor 0x28 a .command ≡ formFor 0x88 b .command
-unfolding formFor lookup lines takes
-read-command a b = refl
-
-pub write-command : (a b : ℕ) → formFor 0x2A a .command ≡ formFor 0x8A b .command
-unfolding formFor lookup lines takes
-write-command a b = refl
+pub long-rule : (cdb : List ℕ) → T (longRule (entryOf cdb))
+unfolding entryOf
+long-rule cdb = long-for (byte 0 cdb) (action cdb)

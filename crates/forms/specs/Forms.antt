@@ -5,29 +5,47 @@ use mathlib.Core.List.{List, [], _∷_}
 use Prim.Native.Nat.{ℕ, _%_}
 use lib.Dec.{eqb}
 use Rattle.fields.specs.Field.{field, byte}
+use Rattle.rights.specs.declared.Action.{Action}
 use Rattle.rights.specs.declared.Action.the-variants.{Register, Reserve, Release, Clear, Preempt, RegisterIgnoring}
 use Rattle.forms.specs.declared.Tell.the-variants.{Ready, Inquiry, Capacity10, Capacity16, Keys, Reservation}
+use Rattle.forms.specs.declared.Move.{Move}
 use Rattle.forms.specs.declared.Move.the-variants.{Read, Write, Unmap}
 use Rattle.forms.specs.declared.Command.{Command}
-use Rattle.forms.specs.declared.Command.the-variants.{Tells, Moves, Alters, Unknown, Unlisted}
+use Rattle.forms.specs.declared.Command.the-variants.{Tells, Moves, Alters}
+use Rattle.forms.specs.declared.Field.{Field}
+use Rattle.forms.specs.declared.Field.the-variants.{Two, Four, Eight}
 use Rattle.forms.specs.declared.Span.{Span}
+use Rattle.forms.specs.declared.Span.the-variants.{Absent, At}
+use Rattle.forms.specs.declared.Test.{Test}
+use Rattle.forms.specs.declared.Test.the-variants.{Nothing, VitalData, Page, Protection, Count, Anchor, Scope, Kind}
 use Rattle.forms.specs.declared.Form.{Form}
+use Rattle.forms.specs.declared.Service.{Service}
+use Rattle.forms.specs.declared.Service.the-variants.{Served, Other}
+use Rattle.forms.specs.declared.Entry.{Entry}
+use Rattle.forms.specs.declared.Entry.the-variants.{Listed, Unlisted}
+use Rattle.forms.specs.declared.Request.{Request}
 
-abbrev pub span : ℕ → ℕ → Span
-span at width = record { at = at; width = width }
+abbrev pub form : Command → Span → Span → Test → Test → Form
+form command address size first second =
+    record { command = command; address = address; size = size; first = first; second = second }
 
--- a row without such a field
-abbrev pub absent : Span
-absent = record { at = 0; width = 0 }
+-- a number of so many bytes, from a byte of the CDB on
+abbrev pub two : ℕ → Span
+two at = At (Two at)
 
-abbrev pub form : Command → ℕ → Span → Span → Form
-form command long address size = record { command = command; long = long; address = address; size = size }
+abbrev pub four : ℕ → Span
+four at = At (Four at)
+
+abbrev pub eight : ℕ → Span
+eight at = At (Eight at)
+
+-- ---- the lines of the table
 
 -- "action in byte 1 bits 4-0"
 unfoldable pub action : List ℕ → ℕ
 action cdb = byte 1 cdb % 32
 
--- the service actions that a line of the table takes
+-- the service actions that a line takes
 pub data Actions : Type 0 where
   any : Actions
   only : ℕ → Actions
@@ -36,71 +54,108 @@ unfoldable pub takes : Actions → ℕ → Bool
 takes any a = true
 takes (only b) a = eqb a b
 
+-- a code, the service actions of this line, how long its CDBs are, and the row
 pub record Line : Type 0 where
   pub code : ℕ
   pub actions : Actions
+  pub long : ℕ
   pub form : Form
 
-abbrev pub code : ℕ → Form → Line
-code n f = record { code = n; actions = any; form = f }
+abbrev pub line : ℕ → Actions → ℕ → Form → Line
+line code actions long form = record { code = code; actions = actions; long = long; form = form }
 
-abbrev pub with-action : ℕ → ℕ → Form → Line
-with-action n a f = record { code = n; actions = only a; form = f }
+-- RESERVE OUT: "Length 5-8."
+abbrev pub out : Action → Test → Test → Form
+out a first second = form (Alters a) Absent (four 5) first second
 
--- "Each operation code has its own row of fields": the command, "6, 10 or 16 as its code has it", the block address, and the count, allocation length or list length
+-- "Each operation code has its own row of fields": "6, 10 or 16 as its code has it", the command, the block address, the count, allocation
+-- length or list length, and the fields that can be wrong
 unfoldable pub lines : List Line
 lines =
-    code 0x00 (form (Tells Ready) 6 absent absent)
-    ∷ code 0x12 (form (Tells Inquiry) 6 absent (span 3 2))
-    ∷ code 0x25 (form (Tells Capacity10) 10 absent absent)
-    ∷ code 0x28 (form (Moves Read) 10 (span 2 4) (span 7 2))
-    ∷ code 0x2A (form (Moves Write) 10 (span 2 4) (span 7 2))
-    ∷ code 0x42 (form (Moves Unmap) 10 absent (span 7 2))
-    ∷ with-action 0x5E 0 (form (Tells Keys) 10 absent (span 7 2))
-    ∷ with-action 0x5E 1 (form (Tells Reservation) 10 absent (span 7 2))
-    ∷ with-action 0x5F 0 (form (Alters Register) 10 absent (span 5 4))
-    ∷ with-action 0x5F 1 (form (Alters Reserve) 10 absent (span 5 4))
-    ∷ with-action 0x5F 2 (form (Alters Release) 10 absent (span 5 4))
-    ∷ with-action 0x5F 3 (form (Alters Clear) 10 absent (span 5 4))
-    ∷ with-action 0x5F 4 (form (Alters Preempt) 10 absent (span 5 4))
-    ∷ with-action 0x5F 6 (form (Alters RegisterIgnoring) 10 absent (span 5 4))
-    ∷ code 0x88 (form (Moves Read) 16 (span 2 8) (span 10 4))
-    ∷ code 0x8A (form (Moves Write) 16 (span 2 8) (span 10 4))
-    ∷ with-action 0x9E 0x10 (form (Tells Capacity16) 16 absent (span 10 4))
+    line 0x00 any 6 (form (Tells Ready) Absent Absent Nothing Nothing)
+    ∷ line 0x12 any 6 (form (Tells Inquiry) Absent (two 3) VitalData Page)
+    ∷ line 0x25 any 10 (form (Tells Capacity10) Absent Absent Nothing Nothing)
+    ∷ line 0x28 any 10 (form (Moves Read) (four 2) (two 7) Protection Count)
+    ∷ line 0x2A any 10 (form (Moves Write) (four 2) (two 7) Protection Count)
+    ∷ line 0x42 any 10 (form (Moves Unmap) Absent (two 7) Anchor Nothing)
+    ∷ line 0x5E (only 0) 10 (form (Tells Keys) Absent (two 7) Nothing Nothing)
+    ∷ line 0x5E (only 1) 10 (form (Tells Reservation) Absent (two 7) Nothing Nothing)
+    ∷ line 0x5F (only 0) 10 (out Register Nothing Nothing)
+    ∷ line 0x5F (only 1) 10 (out Reserve Scope Kind)
+    ∷ line 0x5F (only 2) 10 (out Release Scope Kind)
+    ∷ line 0x5F (only 3) 10 (out Clear Nothing Nothing)
+    ∷ line 0x5F (only 4) 10 (out Preempt Scope Kind)
+    ∷ line 0x5F (only 6) 10 (out RegisterIgnoring Nothing Nothing)
+    ∷ line 0x88 any 16 (form (Moves Read) (eight 2) (four 10) Protection Count)
+    ∷ line 0x8A any 16 (form (Moves Write) (eight 2) (four 10) Protection Count)
+    ∷ line 0x9E (only 0x10) 16 (form (Tells Capacity16) Absent (four 10) Nothing Nothing)
     ∷ []
 
--- the row of a code and a service action; `found` is what the lines so far say: a listed code with another action is known by its length alone
-unfoldable pub lookup : ℕ → ℕ → Form → List Line → Form
+-- ---- what the table has for a code and a service action
+
+abbrev pub listed : ℕ → Service → Entry
+listed long service = Listed (record { long = long; service = service })
+
+-- `found` is what the lines so far say: a listed code with another action is known by its length alone
+unfoldable pub lookup : ℕ → ℕ → Entry → List Line → Entry
 lookup n a found [] = found
 lookup n a found (l ∷ ls) =
     elim (eqb n (l .code)) [
       | false ↦ lookup n a found ls
-      | true ↦ elim (takes (l .actions) a) [ true ↦ l .form | false ↦ lookup n a (form Unknown (l .form .long) absent absent) ls ]
+      | true ↦ elim (takes (l .actions) a) [ true ↦ listed (l .long) (Served (l .form)) | false ↦ lookup n a (listed (l .long) Other) ls ]
     ]
 
-unfoldable pub formFor : ℕ → ℕ → Form
-formFor n a = lookup n a (form Unlisted 0 absent absent) lines
+unfoldable pub entryFor : ℕ → ℕ → Entry
+entryFor n a = lookup n a Unlisted lines
 
-unfoldable pub formOf : List ℕ → Form
-formOf cdb = formFor (byte 0 cdb) (action cdb)
+unfoldable pub entryOf : List ℕ → Entry
+entryOf cdb = entryFor (byte 0 cdb) (action cdb)
 
--- ---- the fields of a CDB by its row
+-- ---- the request of a CDB by its row
 
-unfoldable pub addressOf : Form → List ℕ → ℕ
-addressOf f cdb = field (f .address .at) (f .address .width) cdb
+-- the number that stands there; 0 where there is none
+unfoldable pub fieldNumber : Field → List ℕ → ℕ
+fieldNumber (Two at) cdb = field at 2 cdb
+fieldNumber (Four at) cdb = field at 4 cdb
+fieldNumber (Eight at) cdb = field at 8 cdb
 
--- the number that says how much: one field of the row, with a name for each of its three uses
-unfoldable pub sizeOf : Form → List ℕ → ℕ
-sizeOf f cdb = field (f .size .at) (f .size .width) cdb
+unfoldable pub number : Span → List ℕ → ℕ
+number Absent cdb = 0
+number (At f) cdb = fieldNumber f cdb
 
--- of READ and WRITE, the count of blocks
-abbrev pub countOf : Form → List ℕ → ℕ
-countOf = sizeOf
+-- "Byte 2: scope high half, type low half"
+unfoldable pub requestBy : Form → List ℕ → Request
+requestBy f cdb = record {
+  command = f .command;
+  address = record { 0 = number (f .address) cdb };
+  size = number (f .size) cdb;
+  kind = byte 2 cdb % 16;
+}
+
+-- what is asked for: a request, or nothing that the table serves
+pub data Asked : Type 0 where
+  nothing : Asked
+  asks : Request → Asked
+
+unfoldable pub askedBy : Service → List ℕ → Asked
+askedBy (Served f) cdb = asks (requestBy f cdb)
+askedBy Other cdb = nothing
+
+unfoldable pub askedIn : Entry → List ℕ → Asked
+askedIn (Listed code) cdb = askedBy (code .service) cdb
+askedIn Unlisted cdb = nothing
+
+unfoldable pub askedOf : List ℕ → Asked
+askedOf cdb = askedIn (entryOf cdb) cdb
+
+-- the number that says how much has a name for each of its three uses: of READ and WRITE, the count of blocks
+abbrev pub countIn : Request → ℕ
+countIn r = r .size
 
 -- of commands that tell, the allocation length
-abbrev pub allocationOf : Form → List ℕ → ℕ
-allocationOf = sizeOf
+abbrev pub allocationIn : Request → ℕ
+allocationIn r = r .size
 
 -- of UNMAP and PERSISTENT RESERVE OUT, the length of the parameter list
-abbrev pub listLengthOf : Form → List ℕ → ℕ
-listLengthOf = sizeOf
+abbrev pub listLengthIn : Request → ℕ
+listLengthIn r = r .size

@@ -1,5 +1,6 @@
-// The table of commands, as a meaning: which row of fields an operation code and service action have, and which fields of a CDB can be wrong.
-// No code: the types stand here, the table and the tests in specs/, their laws in proofs/.
+// The table of commands, as a meaning: what an operation code and service action stand for, which fields of a CDB can be wrong, and the
+// request that a CDB makes. No code: the types stand here, the table and the tests in specs/, their laws in proofs/.
+use pool::Lba;
 use rights::Action;
 
 // Commands that tell what everybody may know, and change nothing.
@@ -19,26 +20,70 @@ pub enum Move {
     Unmap,
 }
 
-// What a command is: one that tells, one that moves blocks, one that alters the rights, a listed code with a service action that is
-// not, or a code that is not listed.
+// What a command is: one that tells, one that moves blocks, or one that alters the rights.
 pub enum Command {
     Tells(Tell),
     Moves(Move),
     Alters(Action),
-    Unknown,
+}
+
+// A number in a CDB: in the two, four or eight bytes from one on.
+pub enum Field {
+    Two(u8),
+    Four(u8),
+    Eight(u8),
+}
+
+// Where a number stands that not every command has.
+pub enum Span {
+    Absent,
+    At(Field),
+}
+
+// A field of a CDB that can be wrong.
+pub enum Test {
+    Nothing,
+    VitalData,
+    Page,
+    Protection,
+    Count,
+    Anchor,
+    Scope,
+    Kind,
+}
+
+// The row of a command: which it is, its block address, its count, allocation length or list length, and which of its fields can be wrong,
+// in the order of the tests.
+pub struct Form {
+    pub command: Command,
+    pub address: Span,
+    pub size: Span,
+    pub first: Test,
+    pub second: Test,
+}
+
+// A service action of a listed code: it has a row, or it is not listed.
+pub enum Service {
+    Served(Form),
+    Other,
+}
+
+// What a listed code has: how long its CDBs are, and its service action.
+pub struct Code {
+    pub long: usize,
+    pub service: Service,
+}
+
+// What the table has for a code and a service action.
+pub enum Entry {
+    Listed(Code),
     Unlisted,
 }
 
-// Where a number stands in a CDB; a width of 0 is no field.
-pub struct Span {
-    pub at: usize,
-    pub width: usize,
-}
-
-// The row of a command: which it is, its CDB's length, its block address, and its count, allocation length or list length.
-pub struct Form {
+// What a CDB asks for: the command, its block address, its count, allocation length or list length, and the type of reservation it names.
+pub struct Request {
     pub command: Command,
-    pub long: usize,
-    pub address: Span,
-    pub size: Span,
+    pub address: Lba,
+    pub size: u64,
+    pub kind: u32,
 }

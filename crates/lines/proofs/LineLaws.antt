@@ -1,19 +1,20 @@
 -- Laws of the line of an outcome: which bytes are shown, and how large the answer's number is.
 -- Assumes nothing.
 use mathlib.Core.Path.{_≡_, refl, sym, ap}
-use mathlib.Core.Bool.{Bool, true, false, cond}
-use mathlib.Core.List.{List, [], _∷_}
-use Prim.Native.Nat.{ℕ, suc, _≤_, min}
+use mathlib.Core.Bool.{Bool, true, false}
+use mathlib.Core.List.{List}
+use Prim.Native.Nat.{ℕ, _≤_, min}
 use native.Mathlib.Omega.{arith}
 use native.Mathlib.Nat.{le-of-lt}
 use lib.Dec.{leb}
 use lib.ListN.{length, take, length-take}
 use lib.Seq.{take-all, take-take, length-take-le}
 use borrow.Author.Tests.{leb-true, leb-false}
-use Rattle.answers.specs.declared.Sense.{Sense}
+use Rattle.answers.specs.declared.Refusal.{Refusal}
+use Rattle.answers.specs.declared.Refusal.the-variants.{NotListed, InvalidField, OutOfRange, ListLength, ListField, NoPlace, OtherType, NoRoom}
 use Rattle.answers.specs.declared.Answer.{Answer}
 use Rattle.answers.specs.declared.Answer.the-variants.{Good, Refused, Conflict, Unusable, Short}
-use Rattle.answers.specs.Answers.{senses, sameSense, rowOf, numberOf}
+use Rattle.answers.specs.Answers.{codesOf, numberOf}
 use Rattle.text.specs.Text.{hex}
 use Rattle.lines.specs.Line.{shownBytes, dataText}
 
@@ -45,19 +46,21 @@ module _ (returned n : ℕ) (l : List ℕ) (e : n ≡ min shownBytes returned) w
 
 -- ---- the answer's number
 
-row-step : (b : Bool) (r n : ℕ) → r ≤ suc n → cond b 1 (suc r) ≤ suc (suc n)
-row-step true r n h = omega arith
-row-step false r n h = omega arith
-
-row-most : (s : Sense) (l : List Sense) → rowOf s l ≤ suc (length l)
-unfolding rowOf
-row-most s [] = omega arith
-row-most s (t ∷ ts) = row-step (sameSense s t) (rowOf s ts) (length ts) (row-most s ts)
+refusal-most : (x : Refusal) → codesOf x .number ≤ 12
+unfolding codesOf
+refusal-most NotListed = omega arith
+refusal-most InvalidField = omega arith
+refusal-most OutOfRange = omega arith
+refusal-most ListLength = omega arith
+refusal-most ListField = omega arith
+refusal-most NoPlace = omega arith
+refusal-most OtherType = omega arith
+refusal-most NoRoom = omega arith
 
 pub number-most : (a : Answer) → numberOf a ≤ 12
-unfolding numberOf senses
+unfolding numberOf
 number-most Good = omega arith
-number-most (Refused s) = omega (arith, row-most s senses)
+number-most (Refused s) = refusal-most (s .refusal)
 number-most Conflict = omega arith
 number-most Unusable = omega arith
 number-most Short = omega arith

@@ -7,7 +7,8 @@ use Rattle.answers.specs.declared.Answer.{Answer}
 use Rattle.answers.specs.declared.Answer.the-variants.{Good, Refused, Conflict, Unusable, Short}
 use Rattle.answers.specs.declared.Status.{Status}
 use Rattle.answers.specs.declared.Status.the-variants.{Given, Nothing}
-use Rattle.answers.specs.Answers.{numberOf, statusOf}
+use Rattle.answers.specs.declared.Codes.{Codes}
+use Rattle.answers.specs.Answers.{codesOf, numberOf, statusOf}
 use Rattle.text.specs.Text.{comma, lineFeed, decimal, hexByte, hex}
 
 abbrev pub dash : ℕ
@@ -19,9 +20,12 @@ statusText (Given b) = hexByte b
 statusText Nothing = dash ∷ dash ∷ []
 
 -- "key, ASC, ASCQ"
+unfoldable pub codesText : Codes → List ℕ
+codesText k = hex (k .key ∷ k .asc ∷ k .ascq ∷ [])
+
 unfoldable pub senseText : Answer → List ℕ
 senseText Good = []
-senseText (Refused s) = hex (s .key ∷ s .asc ∷ s .ascq ∷ [])
+senseText (Refused s) = codesText (codesOf (s .refusal))
 senseText Conflict = []
 senseText Unusable = []
 senseText Short = []

@@ -3,12 +3,13 @@ ghost use mathlib.Core.Path.{_≡_};
 ghost use mathlib.Core.List.{_∷_};
 ghost use Prim.Native.Nat.{_+_, _≤_, _<_, min};
 ghost use lib.ListN.{length};
-ghost use Rattle.answers.specs.Answers.{statusOf};
+ghost use Rattle.answers.specs.Answers.{codesOf, statusOf};
 ghost use Rattle.text.specs.Text.{comma, decimal};
 ghost use Rattle.text.specs.Puts.{Puts};
-ghost use Rattle.lines.specs.Line.{shownBytes, statusText, senseText, dataText, lineOf};
+ghost use Rattle.lines.specs.Line.{shownBytes, statusText, codesText, senseText, dataText, lineOf};
 ghost use Rattle.lines.specs.Most.{numbersBelow, lineMost};
 use answers::Answer;
+use answers::Sense;
 use answers::Status;
 
 // 01: "the first 32 of them".
@@ -50,12 +51,21 @@ fn put_status(out: &mut [u8], at: usize, answer: Answer) -> usize
     put_status_text(out, next, answers::status_of(answer))
 }
 
+fn put_codes(out: &mut [u8], at: usize, sense: Sense) -> usize
+    requires { ⌜ at + 6 ≤ length (now out) ⌝ }
+    ensures { λ r. ⌜ (Puts (codesText (codesOf (sense .refusal))) (now (out .entry)) at (now (out .exit)) r) × (r ≤ at + 6) ⌝ }
+{
+    let refusal = sense.refusal;
+    let codes = answers::codes_of(refusal);
+    text::put_hex(out, at, &[codes.key, codes.asc, codes.ascq])
+}
+
 fn put_sense_text(out: &mut [u8], at: usize, answer: Answer) -> usize
     requires { ⌜ at + 6 ≤ length (now out) ⌝ }
     ensures { λ r. ⌜ (Puts (senseText answer) (now (out .entry)) at (now (out .exit)) r) × (r ≤ at + 6) ⌝ }
 {
     match answer {
-        Answer::Refused(s) => text::put_hex(out, at, &[s.key, s.asc, s.ascq]),
+        Answer::Refused(sense) => put_codes(out, at, sense),
         Answer::Good => at,
         Answer::Conflict => at,
         Answer::Unusable => at,

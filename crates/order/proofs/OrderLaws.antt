@@ -4,7 +4,7 @@ use mathlib.Core.Path.{_≡_, refl, sym, subst}
 use mathlib.Core.Bool.{Bool, true, false}
 use mathlib.Core.List.{List, [], _∷_, _++_}
 use lib.Dec.{T}
-use Rattle.fields.proofs.Tests.{and-l, and-r, test, T-true, T-false}
+use Rattle.fields.proofs.Tests.{both, and-l, and-r, test, T-true, T-false}
 use Rattle.order.specs.Order.{Row, _if_, firstOf, nextBy, ifGoodBy, refusingBy, OneGood}
 
 -- ---- one row
@@ -33,6 +33,11 @@ module _ {A : Type 0} (refuses : A → Bool) where
   unfolding nextBy
   next-passes a b e = rw e
 
+  -- a later refusal is one of the whole
+  pub next-refused : (a b : A) → T (refuses b) → T (refuses (nextBy refuses a b))
+  next-refused a b t =
+      test (refuses a) (λ h. rw (next-refuses a b h) h) (λ h. rw (next-passes a b (T-false (refuses a) h)) t)
+
   pub next-next : (a b c : A) → nextBy refuses (nextBy refuses a b) c ≡ nextBy refuses a (nextBy refuses b c)
   unfolding nextBy
   next-next a b c =
@@ -52,10 +57,19 @@ module _ {A : Type 0} (refuses : A → Bool) where
   unfolding ifGoodBy
   if-same a x = test (refuses a) (λ t. rw (T-true (refuses a) t)) (λ t. rw (T-false (refuses a) t))
 
+  -- rows that refuse, one after another
+  pub refusing-append : (xs ys : List (Row A)) → T (refusingBy refuses xs) → T (refusingBy refuses ys) → T (refusingBy refuses (xs ++ ys))
+  unfolding refusingBy
+  refusing-append [] ys s t = t
+  refusing-append ((a if b) ∷ xs) ys s t =
+      both (refuses a) (refusingBy refuses (xs ++ ys)) (and-l (refuses a) (refusingBy refuses xs) s)
+      (refusing-append xs ys (and-r (refuses a) (refusingBy refuses xs) s) t)
+
 -- ---- where one answer alone does not refuse
 
 module _ {A : Type 0} {good : A} {refuses : A → Bool} (one : OneGood good refuses) where
-  not-good : {X : Type 0} (a : A) → T (refuses a) → a ≡ good → X
+  -- no answer refuses and is good
+  pub not-good : {X : Type 0} (a : A) → T (refuses a) → a ≡ good → X
   not-good a t e =
       absurd (subst (λ (b : Bool). T b) (one .passes) (subst (λ (x : A). T (refuses x)) e t))
 
@@ -73,6 +87,9 @@ module _ {A : Type 0} {good : A} {refuses : A → Bool} (one : OneGood good refu
 
   pub next-good : (b : A) → nextBy refuses good b ≡ b
   next-good b = next-passes refuses good b (one .passes)
+
+  pub next-after : (a b : A) → a ≡ good → nextBy refuses a b ≡ b
+  next-after a b e = rw e (next-good b)
 
   pub next-end : (a : A) → nextBy refuses a good ≡ a
   next-end a =

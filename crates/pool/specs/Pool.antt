@@ -16,6 +16,13 @@ pub record Pool : Type 0 where
 abbrev pub pool : List ℕ → List ℕ → Pool
 pool owners medium = record { owners = owners; medium = medium }
 
+-- changed by name: what is not named stays
+abbrev pub withOwners : Pool → List ℕ → Pool
+withOwners p owners = record { owners = owners; medium = p .medium }
+
+abbrev pub withMedium : Pool → List ℕ → Pool
+withMedium p medium = record { owners = p .owners; medium = medium }
+
 -- the lowest slot whose owner number is x; as many as there are slots where none is
 unfoldable pub place : ℕ → List ℕ → ℕ
 place x [] = 0
@@ -76,7 +83,8 @@ putBlocks owners medium a (suc n) bs =
 
 -- slots first, then bytes
 unfoldable pub writeBlocks : Pool → ℕ → ℕ → List ℕ → Pool
-writeBlocks p a n bs = pool (assignBlocks (p .owners) a n) (putBlocks (assignBlocks (p .owners) a n) (p .medium) a n bs)
+writeBlocks p a n bs =
+    withMedium (withOwners p (assignBlocks (p .owners) a n)) (putBlocks (assignBlocks (p .owners) a n) (p .medium) a n bs)
 
 -- there is room unless there are "more unmapped blocks in a write than free slots"
 unfoldable pub roomFor : List ℕ → ℕ → ℕ → Bool
@@ -99,4 +107,4 @@ unmapOwners owners a n = map (freed a n) owners
 
 -- "UNMAP frees the slots named and keeps their bytes."
 unfoldable pub unmapBlocks : Pool → ℕ → ℕ → Pool
-unmapBlocks p a n = pool (unmapOwners (p .owners) a n) (p .medium)
+unmapBlocks p a n = withOwners p (unmapOwners (p .owners) a n)

@@ -66,7 +66,14 @@ fn pool_ok(capacity: u64, owners: &[u64], medium: &[u8]) -> bool
 }
 
 // Whether nothing refuses the call before its command is looked at. The whole state is checked, once, and last.
-pub fn ready(unit: Unit, owners: &[u64], medium: &[u8], nexus: u8, cdb: &[u8], sense: &[u8]) -> bool
+pub fn ready(
+    unit: Unit,
+    owners: &[u64],
+    medium: &[u8],
+    nexus: u64,
+    cdb: &[u8],
+    sense: &[u8],
+) -> bool
     ensures { λ r. ⌜ r
         ≡ readyFor
         (storeOf unit (now (owners .entry)) (now (medium .entry)))

@@ -11,7 +11,7 @@ use Rattle.answers.specs.declared.Answer.{Answer}
 use Rattle.answers.specs.declared.Answer.the-variants.{Good, Refused, Conflict, Unusable, Short}
 use Rattle.answers.specs.Order.{ifGood, ifGoodBy, refuses}
 use Rattle.answers.proofs.OrderLaws.{if-same}
-use Rattle.store.specs.Store.{Store}
+use Rattle.store.specs.Store.{Store, leaves}
 use Rattle.reply.specs.Reply.{Replied, replyOf, Left, leaving, settles, Served, serves}
 
 abbrev pub plain : Answer → List ℕ → Replied
@@ -58,7 +58,7 @@ settles-done v done kept after e h = rw (e, h)
 
 -- a refusal leaves all
 pub serves-refused : (a : Answer) (bs : List ℕ) (after s : Store) (dataIn : List ℕ) → T (refuses a) → serving (plain a dataIn) s ≡ serves a bs after s dataIn
-unfolding serves replyOf ifGoodBy refuses
+unfolding serves leaves replyOf ifGoodBy refuses
 serves-refused Good bs after s dataIn t = absurd t
 serves-refused (Refused x) bs after s dataIn t = refl
 serves-refused Conflict bs after s dataIn t = refl
@@ -67,14 +67,14 @@ serves-refused Short bs after s dataIn t = refl
 
 -- a reply that leaves the store
 pub serves-reply : (a : Answer) (bs : List ℕ) (s : Store) (dataIn : List ℕ) (v : Replied) → v ≡ replyOf a bs dataIn → serving v s ≡ serves a bs s s dataIn
-unfolding serves
+unfolding serves leaves
 serves-reply a bs s dataIn v e =
     ap (λ (w : Replied). serving w s) e ∙ ap (λ (t : Store). serving (replyOf a bs dataIn) t) (sym (if-same a s))
 
 -- an answer that returns no bytes, and changes a part of the store
 pub serves-part : {A : Type 0} (whole : A → Store) (a : Answer) (done kept : A) (dataIn : List ℕ)
     → serving (plain a dataIn) (whole (ifGood a done kept)) ≡ serves a [] (whole done) (whole kept) dataIn
-unfolding serves replyOf ifGoodBy refuses
+unfolding serves leaves replyOf ifGoodBy refuses
 serves-part whole Good done kept dataIn =
     ap (λ (l : List ℕ). serving (plain Good l) (whole done)) (sym (put-none dataIn 0))
 serves-part whole (Refused x) done kept dataIn = refl

@@ -1,6 +1,6 @@
 -- What the contracts speak of: the store and the call that the lent buffers make, and what is left of them.
 -- Assumes nothing.
-use mathlib.Core.List.{List, []}
+use mathlib.Core.List.{List}
 use Prim.Native.Nat.{ℕ}
 use Rattle.pool.specs.Pool.{pool}
 use Rattle.store.specs.declared.Unit.{Unit}
@@ -16,14 +16,6 @@ storeOf unit owners medium = record { unit = unit; pool = pool owners medium }
 abbrev pub callOf : ℕ → List ℕ → List ℕ → List ℕ → List ℕ → Call
 callOf nexus cdb dataOut dataIn sense =
     record { nexus = nexus; cdb = cdb; dataOut = dataOut; dataIn = dataIn; sense = sense }
-
--- a call as far as a command looks at it that returns bytes
-abbrev pub asking : List ℕ → List ℕ → Call
-asking cdb dataIn = callOf 0 cdb [] dataIn []
-
--- and one that is given them
-abbrev pub giving : List ℕ → List ℕ → Call
-giving cdb dataOut = callOf 0 cdb dataOut [] []
 
 -- all that a call leaves
 abbrev pub left : Outcome → List ℕ → List ℕ → List ℕ → List ℕ → Result

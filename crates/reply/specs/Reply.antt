@@ -8,7 +8,7 @@ use Rattle.fields.specs.Bytes.{put}
 use Rattle.answers.specs.declared.Answer.{Answer}
 use Rattle.answers.specs.Order.{ifGood}
 use Rattle.pool.specs.Bounds.{mostBlocks, mostSlots, blockBytes}
-use Rattle.store.specs.Store.{Store}
+use Rattle.store.specs.Store.{Store, leaves}
 use Rattle.reply.specs.declared.Reply.{Reply}
 use Rattle.reply.specs.declared.Outcome.{Outcome}
 use Rattle.reply.specs.Contract.{storeOf}
@@ -59,4 +59,4 @@ served r owners medium dataIn = record {
 }
 
 unfoldable pub serves : Answer → List ℕ → Store → Store → List ℕ → Served
-serves a bs after before dataIn = record { reply = replyOf a bs dataIn; store = ifGood a after before }
+serves a bs after before dataIn = record { reply = replyOf a bs dataIn; store = leaves a after before }

@@ -1,7 +1,7 @@
 -- Laws of the change of all places, and of the test of all places.
 -- Assumes nothing.
 use mathlib.Core.Path.{_≡_, refl, sym, ap, _∙_}
-use mathlib.Core.Bool.{true, false}
+use mathlib.Core.Bool.{Bool, true, false, _&&_}
 use mathlib.Core.List.{List, [], _∷_, map}
 use Prim.Native.Nat.{ℕ, zero, suc, _+_, _<_}
 use native.Mathlib.Numerals.{add-one}
@@ -67,3 +67,25 @@ module _ (ps : List Place) (i : ℕ) where
   pub apart-end : length ps ≡ i → placesApart (drop i ps) ≡ true
   unfolding placesApart
   apart-end h = rw (← h, drop-length)
+
+-- ---- all places are looked at, the first i of them already
+
+and-false : (b : Bool) → (b && false) ≡ false
+and-false true = refl
+and-false false = refl
+
+and-true : (b : Bool) → (b && true) ≡ b
+and-true true = refl
+and-true false = refl
+
+module _ (ps : List Place) (i : ℕ) (old : Bool) (inv : (old && placesApart (drop i ps)) ≡ placesApart ps) where
+  pub every-stops : (new : Bool) → i < length ps → soundBefore (getD ps i unused) (drop (i + 1) ps) ≡ false → new ≡ false
+      → (new && placesApart (drop (i + 1) ps)) ≡ placesApart ps
+  every-stops new h e n = rw n (sym (and-false old) ∙ ap (λ (b : Bool). old && b) (sym (apart-not ps i h e)) ∙ inv)
+
+  pub every-goes : (new : Bool) → i < length ps → soundBefore (getD ps i unused) (drop (i + 1) ps) ≡ true → new ≡ old
+      → (new && placesApart (drop (i + 1) ps)) ≡ placesApart ps
+  every-goes new h e n = rw n (ap (λ (b : Bool). old && b) (sym (apart-on ps i h e)) ∙ inv)
+
+  pub every-end : length ps ≡ i → old ≡ placesApart ps
+  every-end h = sym (and-true old) ∙ ap (λ (b : Bool). old && b) (sym (apart-end ps i h)) ∙ inv

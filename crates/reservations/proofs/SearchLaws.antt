@@ -13,7 +13,7 @@ use borrow.Author.Tests.{lt-ltb, le-ltb, ltb-true, ltb-false}
 use Rattle.rights.specs.declared.Place.{Place}
 use Rattle.reservations.specs.declared.places.Want.{Want}
 use Rattle.reservations.specs.declared.places.Want.the-variants.{Of, Keyed, Used, Free}
-use Rattle.rights.specs.Places.{used, unused, isOf, registered, keyOf, somebody, vacant, known, enrol}
+use Rattle.rights.specs.Places.{used, unused, registration, isOf, registered, keyOf, somebody, vacant, known, enrol}
 use Rattle.reservations.specs.Search.{wants, seek, has}
 
 -- ---- turns of the search
@@ -71,8 +71,8 @@ module _ (n k : ℕ) (p : Place) (ps : List Place) where
   key-step true i e = refl
   key-step false i e = e
 
-  enrol-step : (b : Bool) (i : ℕ) → enrol n k ps ≡ set ps i (record { nexus = n; key = k })
-      → cond b (p ∷ enrol n k ps) (record { nexus = n; key = k } ∷ ps) ≡ set (p ∷ ps) (cond (not b) 0 (suc i)) (record { nexus = n; key = k })
+  enrol-step : (b : Bool) (i : ℕ) → enrol n k ps ≡ set ps i (registration n k)
+      → cond b (p ∷ enrol n k ps) (registration n k ∷ ps) ≡ set (p ∷ ps) (cond (not b) 0 (suc i)) (registration n k)
   enrol-step true i e = ap (λ (l : List Place). p ∷ l) e
   enrol-step false i e = refl
 
@@ -81,7 +81,7 @@ unfolding keyOf seek wants
 key-found n [] = refl
 key-found n (p ∷ ps) = key-step n 0 p ps (isOf n p) (seek (Of n) ps) (key-found n ps)
 
-pub enrol-found : (n k : ℕ) (ps : List Place) → enrol n k ps ≡ set ps (seek Free ps) (record { nexus = n; key = k })
+pub enrol-found : (n k : ℕ) (ps : List Place) → enrol n k ps ≡ set ps (seek Free ps) (registration n k)
 unfolding enrol seek wants
 enrol-found n k [] = refl
 enrol-found n k (p ∷ ps) = enrol-step n k p ps (used p) (seek Free ps) (enrol-found n k ps)

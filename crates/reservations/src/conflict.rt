@@ -11,7 +11,7 @@ use rights::Access;
 use rights::Rights;
 
 // Whether the reservation does not stop a nexus, whatever it wants.
-fn passes(rights: Rights, nexus: u8) -> bool
+fn passes(rights: Rights, nexus: u64) -> bool
     ensures { λ r. ⌜ r ≡ passes rights nexus ⌝ }
 {
     if standing::holds(rights, nexus) {
@@ -25,19 +25,19 @@ fn passes(rights: Rights, nexus: u8) -> bool
 }
 
 // Whether a type stops others even from reading.
-fn stops_reading(kind: u8) -> bool
+fn stops_reading(kind: u32) -> bool
     ensures { λ r. ⌜ r ≡ isOneOf kind (3 ∷ 6 ∷ 8 ∷ []) ⌝ }
 {
     match kind {
         3 => true,
         6 => true,
         8 => true,
-        0..=2 | 4..=5 | 7 | 9..=255 => false,
+        0..=2 | 4..=5 | 7 | 9..=0xFFFF_FFFF => false,
     }
 }
 
 // Whether a type stops others from this access.
-fn stops(kind: u8, access: Access) -> bool
+fn stops(kind: u32, access: Access) -> bool
     ensures { λ r. ⌜ r ≡ stops kind access ⌝ }
 {
     match access {
@@ -47,7 +47,7 @@ fn stops(kind: u8, access: Access) -> bool
 }
 
 // Whether the reservation stops a nexus from this access.
-pub fn conflicts(rights: Rights, nexus: u8, access: Access) -> bool
+pub fn conflicts(rights: Rights, nexus: u64, access: Access) -> bool
     ensures { λ r. ⌜ r ≡ conflict rights nexus access ⌝ }
 {
     if stops(rights.kind, access) {

@@ -4,7 +4,7 @@ ghost use mathlib.Core.List.{[], _∷_};
 ghost use Rattle.rights.specs.Rights.{isOneOf, oneHolds, allHold};
 
 // Whether one nexus holds.
-pub fn one_holds(kind: u8) -> bool
+pub fn one_holds(kind: u32) -> bool
     ensures { λ r. ⌜ r ≡ oneHolds kind ⌝ }
 {
     match kind {
@@ -12,28 +12,28 @@ pub fn one_holds(kind: u8) -> bool
         3 => true,
         5 => true,
         6 => true,
-        0 | 2 | 4 | 7..=255 => false,
+        0 | 2 | 4 | 7..=0xFFFF_FFFF => false,
     }
 }
 
 // Whether every registered nexus holds.
-pub fn all_hold(kind: u8) -> bool
+pub fn all_hold(kind: u32) -> bool
     ensures { λ r. ⌜ r ≡ allHold kind ⌝ }
 {
     match kind {
         7 => true,
         8 => true,
-        0..=6 | 9..=255 => false,
+        0..=6 | 9..=0xFFFF_FFFF => false,
     }
 }
 
 // Whether registered nexuses pass beside the holder.
-pub fn registrants_pass(kind: u8) -> bool
+pub fn registrants_pass(kind: u32) -> bool
     ensures { λ r. ⌜ r ≡ isOneOf kind (5 ∷ 6 ∷ []) ⌝ }
 {
     match kind {
         5 => true,
         6 => true,
-        0..=4 | 7..=255 => false,
+        0..=4 | 7..=0xFFFF_FFFF => false,
     }
 }

@@ -4,7 +4,7 @@ ghost use mathlib.Core.List.{map};
 ghost use Prim.Native.Nat.{_+_, _≤_, _<_};
 ghost use lib.ListN.{getD, drop};
 ghost use Rattle.rights.specs.Bounds.{registrationPlaces};
-ghost use Rattle.rights.specs.Places.{unused, keyOf, enrol};
+ghost use Rattle.rights.specs.Places.{unused, keyOf, enrol, withKey};
 ghost use Rattle.rights.specs.Rights.{placesApart};
 ghost use Rattle.reservations.specs.Search.{wants, seek, has, after, soundBefore};
 use rights::LAST_NEXUS;
@@ -13,7 +13,7 @@ use rights::REGISTRATION_PLACES;
 
 // What a place is looked for by: its nexus, its key, that it is used, that it is free.
 pub enum Want {
-    Of(u8),
+    Of(u64),
     Keyed(u64),
     Used,
     Free,
@@ -76,7 +76,7 @@ pub fn has(places: [Place; REGISTRATION_PLACES], want: Want) -> bool
 }
 
 // The key of a nexus; 0 where it is not registered.
-pub fn key_of(places: [Place; REGISTRATION_PLACES], nexus: u8) -> u64
+pub fn key_of(places: [Place; REGISTRATION_PLACES], nexus: u64) -> u64
     ensures { λ r. ⌜ r ≡ keyOf nexus places ⌝ }
 {
     let i = seek(places, Want::Of(nexus));
@@ -90,7 +90,7 @@ pub fn key_of(places: [Place; REGISTRATION_PLACES], nexus: u8) -> u64
 // The lowest free place given to a nexus.
 pub fn enrol(
     places: [Place; REGISTRATION_PLACES],
-    nexus: u8,
+    nexus: u64,
     key: u64,
 ) -> [Place; REGISTRATION_PLACES]
     ensures { λ r. ⌜ r ≡ enrol nexus key places ⌝ }
@@ -105,10 +105,19 @@ pub fn enrol(
 
 // What is done to every place: the key of a nexus changed (0 unregisters), all with a key removed, all but a nexus, or all emptied.
 pub enum Change {
-    Rekey(u8, u64),
+    Rekey(u64, u64),
     Remove(u64),
-    RemoveBut(u64, u8),
+    RemoveBut(u64, u64),
     Empty,
+}
+
+// The same place with another key.
+fn with_key(place: Place, key: u64) -> Place
+    ensures { λ r. ⌜ r ≡ withKey place key ⌝ }
+{
+    let mut after = place;
+    after.key = key;
+    after
 }
 
 fn changed(place: Place, change: Change) -> Place
@@ -120,7 +129,7 @@ fn changed(place: Place, change: Change) -> Place
             if !wanted(place, Want::Of(nexus)) {
                 return place;
             }
-            if key == 0 { none } else { Place { nexus, key } }
+            if key == 0 { none } else { with_key(place, key) }
         }
         Change::Remove(key) => if place.key == key { none } else { place },
         Change::RemoveBut(key, nexus) => {
@@ -165,12 +174,14 @@ fn sound(places: [Place; REGISTRATION_PLACES], i: usize) -> bool
 pub fn apart(places: [Place; REGISTRATION_PLACES]) -> bool
     ensures { λ r. ⌜ r ≡ placesApart places ⌝ }
 {
+    // every place is looked at: one way out costs less than eight
+    let mut all = true;
     let mut i: usize = 0;
     while i < REGISTRATION_PLACES {
         if !sound(places, i) {
-            return false;
+            all = false;
         }
         i = i + 1;
     }
-    true
+    all
 }

@@ -1,6 +1,6 @@
 // The rights as a whole: which are valid, who holds, when a reservation ends, the generation.
 ghost use mathlib.Core.Path.{_≡_};
-ghost use Rattle.rights.specs.Rights.{holds, holderKey, stands, rightsOk, held, gone, ended, withPlaces, settled, raised, noRights};
+ghost use Rattle.rights.specs.Rights.{holds, holderKey, stands, rightsOk, withPlaces, withReservation, withGeneration, held, gone, ended, settled, raised, noRights};
 use crate::kinds;
 use crate::places;
 use crate::places::Want;
@@ -15,14 +15,14 @@ pub fn none() -> Rights
     let places = [Place { nexus: 0, key: 0 }; REGISTRATION_PLACES];
     Rights {
         places,
-        kind: 0,
         holder: 0,
         generation: 0,
+        kind: 0,
     }
 }
 
 // Whether a nexus holds the reservation.
-pub fn holds(rights: Rights, nexus: u8) -> bool
+pub fn holds(rights: Rights, nexus: u64) -> bool
     ensures { λ r. ⌜ r ≡ holds rights nexus ⌝ }
 {
     if kinds::one_holds(rights.kind) {
@@ -47,7 +47,7 @@ pub fn holder_key(rights: Rights) -> u64
 }
 
 // Whether a reservation has who holds it, or there is none.
-fn stands(places: [Place; REGISTRATION_PLACES], kind: u8, holder: u8) -> bool
+fn stands(places: [Place; REGISTRATION_PLACES], kind: u32, holder: u64) -> bool
     ensures { λ r. ⌜ r ≡ stands places kind holder ⌝ }
 {
     if kinds::one_holds(kind) {
@@ -81,39 +81,45 @@ pub fn valid(rights: Rights) -> bool
 pub fn with_places(rights: Rights, places: [Place; REGISTRATION_PLACES]) -> Rights
     ensures { λ r. ⌜ r ≡ withPlaces rights places ⌝ }
 {
-    Rights {
-        places,
-        kind: rights.kind,
-        holder: rights.holder,
-        generation: rights.generation,
-    }
+    let mut after = rights;
+    after.places = places;
+    after
+}
+
+// The rights with another reservation.
+fn with_reservation(rights: Rights, kind: u32, holder: u64) -> Rights
+    ensures { λ r. ⌜ r ≡ withReservation rights kind holder ⌝ }
+{
+    let mut after = rights;
+    after.kind = kind;
+    after.holder = holder;
+    after
+}
+
+// The rights with another generation.
+fn with_generation(rights: Rights, generation: u32) -> Rights
+    ensures { λ r. ⌜ r ≡ withGeneration rights generation ⌝ }
+{
+    let mut after = rights;
+    after.generation = generation;
+    after
 }
 
 // The rights with a reservation by a nexus.
-pub fn held(rights: Rights, kind: u8, nexus: u8) -> Rights
+pub fn held(rights: Rights, kind: u32, nexus: u64) -> Rights
     ensures { λ r. ⌜ r ≡ held rights kind nexus ⌝ }
 {
-    let places = rights.places;
-    let holder = if kinds::all_hold(kind) { 0 } else { nexus };
-    Rights {
-        places,
-        kind,
-        holder,
-        generation: rights.generation,
+    if kinds::all_hold(kind) {
+        return with_reservation(rights, kind, 0);
     }
+    with_reservation(rights, kind, nexus)
 }
 
 // The rights with no reservation.
 pub fn ended(rights: Rights) -> Rights
     ensures { λ r. ⌜ r ≡ ended rights ⌝ }
 {
-    let places = rights.places;
-    Rights {
-        places,
-        kind: 0,
-        holder: 0,
-        generation: rights.generation,
-    }
+    with_reservation(rights, 0, 0)
 }
 
 // Whether the holder, or the last registrant, is gone.
@@ -141,7 +147,5 @@ pub fn settled(rights: Rights) -> Rights
 pub fn raised(rights: Rights) -> Rights
     ensures { λ r. ⌜ r ≡ raised rights ⌝ }
 {
-    let mut after = rights;
-    after.generation = std::num::wrapping_add_u32(rights.generation, 1);
-    after
+    with_generation(rights, std::num::wrapping_add_u32(rights.generation, 1))
 }

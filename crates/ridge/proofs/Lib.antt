@@ -1,4 +1,3 @@
-pub mod WordLaws
-pub mod FarNexus
 pub mod InterfaceLaws
-pub mod WordsBack
+pub mod Said
+pub mod Lent

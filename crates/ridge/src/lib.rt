@@ -1,30 +1,32 @@
-// The C interface of the store: numbers and lent slices only, so that C and Rust can call it. host/include/ridge.h declares it.
+// The C interface of the store: a unit's record, numbers and lent slices, so that C and Rust can call it. host/include/ridge.h declares it.
+// The record is C's struct of the same fields, 152 bytes with no padding: the capacity at 0, the rights at 8, and in these the places at 0,
+// the holder at 128, the generation at 136 and the type at 140. Any 152 bytes are one, so nothing is required of them.
+// Each function takes the record out, calls its half in `by_value`, and puts the record back: a function over a lent record is walked by hand,
+// so the meaning stands there.
 ghost use mathlib.Core.Path.{_≡_};
-ghost use Rattle.ridge.specs.Interface.{executed, freshened, leaves, leavesFresh, pool, call};
-use answers::Answer;
+ghost use Rattle.reply.specs.Contract.{storeOf, callOf};
+ghost use Rattle.ridge.specs.Interface.{executed, freshened, leaves, leavesFresh};
+use store::Unit;
 
-mod words;
+mod by_value;
 
-// Makes a fresh store: its words and its owners. The answer is document 01's number.
+// Makes a fresh store: its unit and its owners. The answer is document 01's number.
 #[no_mangle]
-pub extern "C" fn ridge_fresh(capacity: u64, state: &mut [u64], owners: &mut [u64]) -> u64
-    ensures { λ r. ⌜ leavesFresh r (now (state .exit)) (now (owners .exit))
-        ≡ freshened capacity (now (state .entry)) (now (owners .entry)) ⌝ }
+pub extern "C" fn ridge_fresh(capacity: u64, unit: &mut Unit, owners: &mut [u64]) -> u64
+    ensures { λ r. ⌜ leavesFresh r (now (unit .exit)) (now (owners .exit))
+        ≡ freshened capacity (now (unit .entry)) (now (owners .entry)) ⌝ }
 {
-    if state.len() != 20 {
-        return 11;
-    }
-    let made = commands::fresh(capacity, owners);
-    let answer = made.answer;
-    let unit = made.unit;
-    words::put_if_good(answer, unit, state);
-    answers::number_of(answer)
+    let before = *unit;
+    let done = by_value::fresh(capacity, before, owners);
+    let after = done.unit;
+    *unit = after;
+    done.answer
 }
 
 // Runs one command. The answer is document 01's number; `returned` is how many bytes of data-in were written.
 #[no_mangle]
 pub extern "C" fn ridge_execute(
-    state: &mut [u64],
+    unit: &mut Unit,
     owners: &mut [u64],
     medium: &mut [u8],
     nexus: u64,
@@ -34,31 +36,25 @@ pub extern "C" fn ridge_execute(
     sense: &mut [u8],
     returned: &mut u64,
 ) -> u64
-    ensures { λ r. ⌜ leaves r (now (returned .exit)) (now (state .exit))
+    ensures { λ r. ⌜ leaves r (now (returned .exit)) (now (unit .exit))
         (now (owners .exit)) (now (medium .exit)) (now («data_in» .exit)) (now (sense .exit))
         ≡ executed
-        (now (state .entry))
-        (pool (now (owners .entry)) (now (medium .entry)))
-        (call nexus (now (cdb .entry)) (now («data_out» .entry)) (now («data_in» .entry)) (now (sense .entry))) ⌝ }
+        (storeOf (now (unit .entry)) (now (owners .entry)) (now (medium .entry)))
+        (callOf nexus (now (cdb .entry)) (now («data_out» .entry)) (now («data_in» .entry)) (now (sense .entry))) ⌝ }
 {
-    *returned = 0;
-    if !words::fits(state) {
-        return 11;
-    }
-    let unit = words::unit_in(state);
-    let outcome = commands::execute(
-        unit,
+    let before = *unit;
+    let done = by_value::execute(
+        before,
         owners,
         medium,
-        words::nexus_of(nexus),
+        nexus,
         cdb,
         data_out,
         data_in,
         sense,
+        returned,
     );
-    let after = outcome.unit;
-    let answer = outcome.answer;
-    words::put(after, state);
-    *returned = outcome.returned as u64;
-    answers::number_of(answer)
+    let after = done.unit;
+    *unit = after;
+    done.answer
 }

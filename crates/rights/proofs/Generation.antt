@@ -13,7 +13,7 @@ use Rattle.rights.specs.declared.Parameters.{Parameters}
 use Rattle.rights.specs.declared.Action.{Action}
 use Rattle.rights.specs.declared.Action.the-variants.{Register, Reserve, Release, Clear, Preempt, RegisterIgnoring}
 use Rattle.rights.specs.Places.{registered, rekeyed, enrol}
-use Rattle.rights.specs.Rights.{gone, holderKey, holds, held, ended, withPlaces, settled, raised}
+use Rattle.rights.specs.Rights.{gone, holderKey, holds, withPlaces, withReservation, withGeneration, held, ended, settled, raised}
 use Rattle.rights.specs.Actions.{decisionRows, registering, reserving, releasing, clearing, preempting, acted, decided}
 
 -- does an action that nothing refuses raise the generation
@@ -35,11 +35,11 @@ either true x y g p q = p
 either false x y g p q = q
 
 raised-generation : (r : Rights) → raised r .generation ≡ nextGeneration (r .generation)
-unfolding raised nextGeneration
+unfolding raised withGeneration nextGeneration
 raised-generation r = refl
 
 settled-generation : (r : Rights) → settled r .generation ≡ r .generation
-unfolding settled ended
+unfolding settled ended withReservation
 settled-generation r = either (gone r) _ r (r .generation) refl refl
 
 -- after a change that leaves the generation, and raised
@@ -58,7 +58,7 @@ registering-generation r n k = go (registered n (r .places)) (eqb k 0)
     go false false = raised-after (withPlaces r (enrol n k (r .places))) (r .generation) refl
 
 preempting-generation : (r : Rights) (n kind k : ℕ) → preempting r n kind k .generation ≡ nextGeneration (r .generation)
-unfolding preempting withPlaces held
+unfolding preempting withPlaces withReservation held
 preempting-generation r n kind k =
     either (eqb (holderKey r) k) _ _ (nextGeneration (r .generation))
     (raised-after _ (r .generation) refl)
@@ -67,7 +67,7 @@ preempting-generation r n kind k =
 -- the generation after an action that nothing refuses
 pub acted-generation : (a : Action) (r : Rights) (n : ℕ) (o : Parameters)
     → acted a r n o .generation ≡ cond (raises a r n o) (nextGeneration (r .generation)) (r .generation)
-unfolding acted raises reserving releasing clearing held ended withPlaces
+unfolding acted raises reserving releasing clearing held ended withPlaces withReservation
 acted-generation Register r n o = registering-generation r n (o .service)
 acted-generation Reserve r n o = either (eqb (r .kind) 0) _ _ (r .generation) refl refl
 acted-generation Release r n o = either (holds r n) _ _ (r .generation) refl refl

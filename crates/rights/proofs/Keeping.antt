@@ -8,17 +8,17 @@ use lib.Dec.{T, eqb, leb, eqb→eq, eqb-refl, le→leb, T-not}
 use lib.ListN.{length, length-map}
 use Rattle.fields.proofs.Tests.{and-l, and-r, both, or-l, or-r, or-map, or-map², nor-l, nor-r, nor, not-map, not-not, nand-rest, true→T, false→T, by-test}
 use Rattle.answers.specs.declared.Answer.the-variants.{Good, Conflict}
-use Rattle.answers.specs.Answers.{listField}
 use Rattle.answers.specs.Order.{first, refuses}
-use Rattle.answers.proofs.OrderLaws.{row-fails, rows-after}
+use Rattle.answers.proofs.OrderLaws.{row-fails}
 use Rattle.rights.specs.declared.Place.{Place}
 use Rattle.rights.specs.declared.Rights.{Rights}
 use Rattle.rights.specs.declared.Parameters.{Parameters}
 use Rattle.rights.specs.declared.Action.{Action}
 use Rattle.rights.specs.declared.Action.the-variants.{Register, Reserve, Release, Clear, Preempt, RegisterIgnoring}
-use Rattle.rights.specs.Places.{unused, used, isOf, registered, somebody, keyOf, enrol, rekeyed, Spared, nobody, sender, spares, without}
-use Rattle.rights.specs.Rights.{isOneOf, isType, oneHolds, allHold, holds, placeOk, placesApart, placesOk, stands, rightsOk, held, holderKey, gone, ended, withPlaces, settled, raised}
+use Rattle.rights.specs.Places.{unused, registration, used, isOf, registered, somebody, keyOf, enrol, withKey, rekeyed, Spared, nobody, sender, spares, without}
+use Rattle.rights.specs.Rights.{isOneOf, isType, oneHolds, allHold, holds, placeOk, placesApart, placesOk, stands, rightsOk, withPlaces, withReservation, withGeneration, held, holderKey, gone, ended, settled, raised}
 use Rattle.rights.specs.Actions.{stranger, keyWrong, decisionRows, registering, reserving, releasing, clearing, preempting, acted}
+use Rattle.rights.proofs.DecisionLaws.{later-good}
 
 -- ---- what validity says of places
 
@@ -92,15 +92,16 @@ thin-unused p = record { was = λ h. absurd h; who = λ h. absurd h; ok = λ h. 
 thin-same : (p : Place) → Thin p p
 thin-same p = record { was = λ h. h; who = λ h. refl; ok = λ h. h }
 
-used-key : (n k : ℕ) → T (not (eqb k 0)) → T (used (record { nexus = n; key = k }))
+used-key : (n k : ℕ) → T (not (eqb k 0)) → T (used (registration n k))
 unfolding used
 used-key n k h = h
 
-thin-key : (n k : ℕ) (p : Place) → T (isOf n p) → T (not (eqb k 0)) → Thin p (record { nexus = n; key = k })
-thin-key n k p t h = record {
-  was = λ x. isOf-used n p t;
-  who = λ x. sym (isOf-nexus n p t);
-  ok = λ x. small-ok _ (used-key n k h) (subst (λ (m : ℕ). T (leb m 15)) (isOf-nexus n p t) (used-small p x (isOf-used n p t)));
+thin-key : (k : ℕ) (p : Place) → T (used p) → T (not (eqb k 0)) → Thin p (withKey p k)
+unfolding withKey
+thin-key k p t h = record {
+  was = λ x. t;
+  who = λ x. refl;
+  ok = λ x. small-ok _ (used-key (p .nexus) k h) (used-small p x t);
 }
 
 module _ (g : Place → Place) (thin : (p : Place) → Thin p (g p)) where
@@ -128,8 +129,8 @@ module _ (g : Place → Place) (thin : (p : Place) → Thin p (g p)) where
 rekeyed-thin : (n k : ℕ) (p : Place) → Thin p (rekeyed n k p)
 unfolding rekeyed
 rekeyed-thin n k p =
-    by-test (isOf n p) (λ b. Thin p (cond b (cond (eqb k 0) unused (record { nexus = n; key = k })) p))
-    (λ t. by-test (eqb k 0) (λ z. Thin p (cond z unused (record { nexus = n; key = k }))) (λ z. thin-unused p) (λ z. thin-key n k p t z))
+    by-test (isOf n p) (λ b. Thin p (cond b (cond (eqb k 0) unused (withKey p k)) p))
+    (λ t. by-test (eqb k 0) (λ z. Thin p (cond z unused (withKey p k))) (λ z. thin-unused p) (λ z. thin-key k p (isOf-used n p t) z))
     (λ t. thin-same p)
 
 without-thin : (s : Spared) (k : ℕ) (p : Place) → Thin p (without s k p)
@@ -143,7 +144,7 @@ enrol-length : (n k : ℕ) (ps : List Place) → length (enrol n k ps) ≡ lengt
 unfolding enrol
 enrol-length n k [] = refl
 enrol-length n k (p ∷ ps) =
-    by-test (used p) (λ b. length (cond b (p ∷ enrol n k ps) (record { nexus = n; key = k } ∷ ps)) ≡ suc (length ps))
+    by-test (used p) (λ b. length (cond b (p ∷ enrol n k ps) (registration n k ∷ ps)) ≡ suc (length ps))
     (λ u. ap suc (enrol-length n k ps)) (λ u. refl)
 
 -- nobody else comes
@@ -151,11 +152,11 @@ enrol-others : (n k m : ℕ) (ps : List Place) → T (not (eqb n m)) → T (not 
 unfolding enrol registered
 enrol-others n k m [] d t = t
 enrol-others n k m (p ∷ ps) d t =
-    by-test (used p) (λ b. T (not (registered m (cond b (p ∷ enrol n k ps) (record { nexus = n; key = k } ∷ ps)))))
+    by-test (used p) (λ b. T (not (registered m (cond b (p ∷ enrol n k ps) (registration n k ∷ ps)))))
     (λ u. nor (isOf m p) (registered m (enrol n k ps)) (nor-l (isOf m p) (registered m ps) t)
     (enrol-others n k m ps d (nor-r (isOf m p) (registered m ps) t)))
-    (λ u. nor (isOf m (record { nexus = n; key = k })) (registered m ps)
-    (not-map (eqb n m) (isOf m (record { nexus = n; key = k })) (λ h. subst (λ (x : ℕ). T (eqb n x)) (isOf-nexus m _ h) (eqb-refl n)) d)
+    (λ u. nor (isOf m (registration n k)) (registered m ps)
+    (not-map (eqb n m) (isOf m (registration n k)) (λ h. subst (λ (x : ℕ). T (eqb n x)) (isOf-nexus m _ h) (eqb-refl n)) d)
     (nor-r (isOf m p) (registered m ps) t))
 
 module _ (n k : ℕ) (small : T (leb n 15)) (some : T (not (eqb k 0))) where
@@ -163,11 +164,11 @@ module _ (n k : ℕ) (small : T (leb n 15)) (some : T (not (eqb k 0))) where
   unfolding enrol registered
   enrol-apart [] f t = t
   enrol-apart (p ∷ ps) f t =
-      by-test (used p) (λ b. T (placesApart (cond b (p ∷ enrol n k ps) (record { nexus = n; key = k } ∷ ps))))
+      by-test (used p) (λ b. T (placesApart (cond b (p ∷ enrol n k ps) (registration n k ∷ ps))))
       (λ u. apart-more p (enrol n k ps) (apart-ok p ps t)
       (λ u. enrol-others n k (p .nexus) ps (other p ps f u) (apart-others p ps t u))
       (enrol-apart ps (nor-r (isOf n p) (registered n ps) f) (apart-rest p ps t)))
-      (λ u. apart-more (record { nexus = n; key = k }) ps (small-ok _ (used-key n k some) small) (λ v. nor-r (isOf n p) (registered n ps) f) (apart-rest p ps t))
+      (λ u. apart-more (registration n k) ps (small-ok _ (used-key n k some) small) (λ v. nor-r (isOf n p) (registered n ps) f) (apart-rest p ps t))
     where
       other : (p : Place) (ps : List Place) → T (not (isOf n p || registered n ps)) → T (used p) → T (not (eqb n (p .nexus)))
       other p ps f u =
@@ -181,18 +182,18 @@ enrol-stays : (n k m : ℕ) (ps : List Place) → T (registered m ps) → T (reg
 unfolding enrol registered
 enrol-stays n k m [] t = t
 enrol-stays n k m (p ∷ ps) t =
-    by-test (used p) (λ b. T (registered m (cond b (p ∷ enrol n k ps) (record { nexus = n; key = k } ∷ ps))))
+    by-test (used p) (λ b. T (registered m (cond b (p ∷ enrol n k ps) (registration n k ∷ ps))))
     (λ u. or-map (isOf m p) (registered m ps) (registered m (enrol n k ps)) (enrol-stays n k m ps) t)
-    (λ u. or-map² (isOf m p) (isOf m (record { nexus = n; key = k })) (registered m ps) (registered m ps)
+    (λ u. or-map² (isOf m p) (isOf m (registration n k)) (registered m ps) (registered m ps)
     (λ h. absurd (T-not (used p) u (isOf-used m p h))) (λ x. x) t)
 
 enrol-somebody : (n k : ℕ) (ps : List Place) → T (not (eqb k 0)) → T (somebody ps) → T (somebody (enrol n k ps))
 unfolding enrol somebody
 enrol-somebody n k [] h t = t
 enrol-somebody n k (p ∷ ps) h t =
-    by-test (used p) (λ b. T (somebody (cond b (p ∷ enrol n k ps) (record { nexus = n; key = k } ∷ ps))))
+    by-test (used p) (λ b. T (somebody (cond b (p ∷ enrol n k ps) (registration n k ∷ ps))))
     (λ u. or-l (used p) (somebody (enrol n k ps)) u)
-    (λ u. or-l (used (record { nexus = n; key = k })) (somebody ps) (used-key n k h))
+    (λ u. or-l (used (registration n k)) (somebody ps) (used-key n k h))
 
 -- a reservation stands where its holder stays registered, or somebody is left
 stands-map : (ps qs : List Place) (kind holder : ℕ)
@@ -224,11 +225,11 @@ unfolding rightsOk
 rights-of r s t = both (placesOk (r .places)) (stands (r .places) (r .kind) (r .holder)) s t
 
 raised-ok : (r : Rights) → T (rightsOk r) → T (rightsOk (raised r))
-unfolding raised
+unfolding raised withGeneration
 raised-ok r t = rights-of (raised r) (rights-places r t) (rights-stand r t)
 
 ended-ok : (r : Rights) → T (placesOk (r .places)) → T (rightsOk (ended r))
-unfolding ended stands
+unfolding ended withReservation stands
 ended-ok r t = rights-of (ended r) t tt
 
 -- where nobody is gone, the holder is registered, or somebody is
@@ -285,7 +286,7 @@ held-stands ps kind n k u =
     (or-r (eqb kind 0 && eqb n 0) (oneHolds kind && registered n ps) (both (oneHolds kind) (registered n ps) (type-one kind k (false→T _ e)) u))) refl
 
 held-ok : (r : Rights) (kind n : ℕ) → T (isType kind) → T (registered n (r .places)) → T (placesOk (r .places)) → T (rightsOk (held r kind n))
-unfolding held
+unfolding held withReservation
 held-ok r kind n k u t = rights-of (held r kind n) t (held-stands (r .places) kind n k u)
 
 -- ---- the actions
@@ -383,8 +384,8 @@ maker-registered Preempt r n o w m = known-sender r n o w
 maker-registered RegisterIgnoring r n o w m = absurd m
 
 key-right : (a : Action) (r : Rights) (n : ℕ) (o : Parameters) → first (decisionRows a r n o) ≡ Good → T (not (keyWrong a r n o))
-unfolding decisionRows refuses
-key-right a r n o e = false→T (keyWrong a r n o) (row-fails Conflict _ _ tt (rows-after listField _ _ tt e))
+unfolding refuses
+key-right a r n o e = false→T (keyWrong a r n o) (row-fails Conflict _ _ tt (later-good a r n o e))
 
 -- validity is kept by every action that nothing refuses
 pub acted-keeps : (a : Action) (r : Rights) (n : ℕ) (o : Parameters) → T (rightsOk r) → n ≤ 15 → first (decisionRows a r n o) ≡ Good

@@ -1,9 +1,10 @@
 -- The six actions of PERSISTENT RESERVE OUT: when each is refused, and what it changes.
 -- Assumes nothing.
 use mathlib.Core.Bool.{Bool, false, not, _&&_, _||_, cond}
-use mathlib.Core.List.{List, [], _∷_, map}
+use mathlib.Core.List.{List, [], _∷_, _++_, map}
 use Prim.Native.Nat.{ℕ}
 use lib.Dec.{eqb}
+use Rattle.fields.specs.Field.{bit}
 use Rattle.answers.specs.declared.Answer.the-variants.{Conflict}
 use Rattle.answers.specs.Answers.{listField, noPlace, otherType}
 use Rattle.answers.specs.Order.{Row, _if_, first, ifGood}
@@ -17,14 +18,18 @@ use Rattle.rights.specs.Rights.{holds, held, holderKey, ended, withPlace
 
 -- ---- refusals
 
+-- a row for each flag that registering refuses
+unfoldable pub registerFlags : Parameters → List Row
+registerFlags o = listField if bit 3 (o .flags) ∷ listField if bit 2 (o .flags) ∷ listField if bit 0 (o .flags) ∷ []
+
 -- "byte 20 bits 3, 2, 0 any set in actions 0 and 6: 5"
-unfoldable pub flagsWrong : Action → Parameters → Bool
-flagsWrong Register o = o .flags
-flagsWrong Reserve o = false
-flagsWrong Release o = false
-flagsWrong Clear o = false
-flagsWrong Preempt o = false
-flagsWrong RegisterIgnoring o = o .flags
+unfoldable pub flagRows : Action → Parameters → List Row
+flagRows Register o = registerFlags o
+flagRows Reserve o = []
+flagRows Release o = []
+flagRows Clear o = []
+flagRows Preempt o = []
+flagRows RegisterIgnoring o = registerFlags o
 
 -- "sender unregistered or key wrong"
 unfoldable pub stranger : Rights → ℕ → Parameters → Bool
@@ -58,7 +63,7 @@ actionRows RegisterIgnoring r n o = noPlace if crowded r n o ∷ []
 
 -- "5 for flags; 10 for keys; then the action's own"
 unfoldable pub decisionRows : Action → Rights → ℕ → Parameters → List Row
-decisionRows a r n o = listField if flagsWrong a o ∷ Conflict if keyWrong a r n o ∷ actionRows a r n o
+decisionRows a r n o = flagRows a o ++ (Conflict if keyWrong a r n o ∷ actionRows a r n o)
 
 -- ---- changes, where nothing refuses
 

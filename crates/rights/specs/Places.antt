@@ -10,6 +10,10 @@ use Rattle.rights.specs.declared.Place.{Place}
 abbrev pub unused : Place
 unused = record { nexus = 0; key = 0 }
 
+-- the place of a nexus that comes with a key
+abbrev pub registration : ℕ → ℕ → Place
+registration n k = record { nexus = n; key = k }
+
 -- "used registration places have … nonzero keys": a place is used exactly if its key is not 0
 unfoldable pub used : Place → Bool
 used p = not (eqb (p .key) 0)
@@ -47,11 +51,15 @@ known k (p ∷ ps) = (used p && eqb (p .key) k) || known k ps
 -- "registers (lowest free place)"
 unfoldable pub enrol : ℕ → ℕ → List Place → List Place
 enrol n k [] = []
-enrol n k (p ∷ ps) = cond (used p) (p ∷ enrol n k ps) (record { nexus = n; key = k } ∷ ps)
+enrol n k (p ∷ ps) = cond (used p) (p ∷ enrol n k ps) (registration n k ∷ ps)
+
+-- the same place with another key: no other definition makes a place from a place field by field
+unfoldable pub withKey : Place → ℕ → Place
+withKey p k = record { nexus = p .nexus; key = k }
 
 -- "or changes the key; 0 unregisters": the place p after the nexus n gave the key k
 unfoldable pub rekeyed : ℕ → ℕ → Place → Place
-rekeyed n k p = cond (isOf n p) (cond (eqb k 0) unused (record { nexus = n; key = k })) p
+rekeyed n k p = cond (isOf n p) (cond (eqb k 0) unused (withKey p k)) p
 
 -- who is left where all with a key are removed: nobody, or the sender
 pub data Spared : Type 0 where

@@ -59,18 +59,27 @@ stands ps kind holder =
 unfoldable pub rightsOk : Rights → Bool
 rightsOk r = placesOk (r .places) && stands (r .places) (r .kind) (r .holder)
 
+-- ---- the same rights but for what is named
+-- No other definition makes rights from rights field by field, so that a field more is written here alone.
+
+unfoldable pub withPlaces : Rights → List Place → Rights
+withPlaces r ps = record { places = ps; holder = r .holder; generation = r .generation; kind = r .kind }
+
+unfoldable pub withReservation : Rights → ℕ → ℕ → Rights
+withReservation r kind holder = record { places = r .places; holder = holder; generation = r .generation; kind = kind }
+
+unfoldable pub withGeneration : Rights → ℕ → Rights
+withGeneration r n = record { places = r .places; holder = r .holder; generation = n; kind = r .kind }
+
 -- ---- changes
 
 -- the rights with a reservation of this type made by n; "for 7 and 8 the holder field is 0"
 unfoldable pub held : Rights → ℕ → ℕ → Rights
-held r kind n = record { places = r .places; kind = kind; holder = cond (allHold kind) 0 n; generation = r .generation }
+held r kind n = withReservation r kind (cond (allHold kind) 0 n)
 
 -- with no reservation
 unfoldable pub ended : Rights → Rights
-ended r = record { places = r .places; kind = 0; holder = 0; generation = r .generation }
-
-unfoldable pub withPlaces : Rights → List Place → Rights
-withPlaces r ps = record { places = ps; kind = r .kind; holder = r .holder; generation = r .generation }
+ended r = withReservation r 0 0
 
 -- "its holder, or under 7 and 8 the last registrant, is gone"
 unfoldable pub gone : Rights → Bool
@@ -82,8 +91,8 @@ settled r = cond (gone r) (ended r) r
 
 -- "Generation rises by 1 …; after FFFF_FFFFh the generation is 0."
 unfoldable pub raised : Rights → Rights
-raised r = record { places = r .places; kind = r .kind; holder = r .holder; generation = (r .generation + 1) % 2 ^ 32 }
+raised r = withGeneration r ((r .generation + 1) % 2 ^ 32)
 
 -- "A fresh store has no mapping, registration or reservation and generation 0."
 unfoldable pub noRights : Rights
-noRights = record { places = unused ∷ unused ∷ unused ∷ unused ∷ unused ∷ unused ∷ unused ∷ unused ∷ []; kind = 0; holder = 0; generation = 0 }
+noRights = record { places = unused ∷ unused ∷ unused ∷ unused ∷ unused ∷ unused ∷ unused ∷ unused ∷ []; holder = 0; generation = 0; kind = 0 }

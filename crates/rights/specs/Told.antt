@@ -22,7 +22,8 @@ unfoldable pub keysData : Rights → List ℕ
 keysData r = bytes 4 (r .generation) ++ (bytes 4 (length (keys (r .places))) ++ keys (r .places))
 
 -- "Reservation: generation; length 0, or 16 with the holder's key in 8-15 (0 for types 7, 8), byte 21 the type, others 0."
+-- A type is below 256, so the number in bytes 18-21 has it in byte 21 and zeros before.
 unfoldable pub reservationData : Rights → List ℕ
 reservationData r =
     bytes 4 (r .generation)
-    ++ cond (eqb (r .kind) 0) (bytes 4 0) (bytes 4 16 ++ (bytes 8 (holderKey r) ++ (zeros 5 ++ (r .kind ∷ zeros 2))))
+    ++ cond (eqb (r .kind) 0) (bytes 4 0) (bytes 4 16 ++ (bytes 8 (holderKey r) ++ (zeros 2 ++ (bytes 4 (r .kind) ++ zeros 2))))

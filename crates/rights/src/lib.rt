@@ -3,23 +3,25 @@
 use answers::Answer;
 
 // The highest nexus number.
-pub const LAST_NEXUS: u8 = 15;
+pub const LAST_NEXUS: u64 = 15;
 
 // How many registration places there are.
 pub const REGISTRATION_PLACES: usize = 8;
 
 // A registration place; it is used exactly if its key is not 0.
+#[repr(C)]
 pub struct Place {
-    pub nexus: u8,
+    pub nexus: u64,
     pub key: u64,
 }
 
 // The registrations, the reservation (type 0 where there is none) and the generation.
+#[repr(C)]
 pub struct Rights {
     pub places: [Place; REGISTRATION_PLACES],
-    pub kind: u8,
-    pub holder: u8,
+    pub holder: u64,
     pub generation: u32,
+    pub kind: u32,
 }
 
 // What a command wants of the blocks.
@@ -38,12 +40,12 @@ pub enum Action {
     RegisterIgnoring,
 }
 
-// What a reservation-out call says beside its action: the type, the key, the service action key, and whether a flag is set that registering refuses.
+// What a reservation-out call says beside its action: the type, the key, the service action key, and the byte of the flags.
 pub struct Parameters {
-    pub kind: u8,
+    pub kind: u32,
     pub key: u64,
     pub service: u64,
-    pub flags: bool,
+    pub flags: u8,
 }
 
 // The answer to an action, and the rights after it.

@@ -22,7 +22,7 @@ use Rattle.contents.specs.Contents.{calls, nexusOf, cdbLength, outLength, bodyE
 use Rattle.sheet.specs.Calls.{dataInBytes, callAt}
 use Rattle.sheet.specs.Printed.{capacity, slots, heading, badSheet, seenLine, linesFrom, benchStore, linesOf, printed}
 use Rattle.text.specs.Puts.{Puts}
-use Rattle.sheet.proofs.Returned.{returned-fits}
+use Rattle.store.proofs.Returned.{returned-fits}
 
 -- ---- a fresh store
 

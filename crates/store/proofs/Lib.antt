@@ -1,1 +1,4 @@
+pub mod Parts
 pub mod StoreLaws
+pub mod MoveLaws
+pub mod Returned

@@ -8,6 +8,7 @@ use Rattle.fields.specs.Bytes.{zeros}
 use Rattle.answers.specs.declared.Answer.{Answer}
 use Rattle.answers.specs.declared.Answer.the-variants.{Unusable}
 use Rattle.answers.specs.Order.{_if_, first, ifGood}
+use Rattle.pool.specs.Pool.{pool}
 use Rattle.pool.specs.Valid.{capacityOk, slotsOk}
 use Rattle.rights.specs.Rights.{noRights}
 use Rattle.store.specs.declared.Unit.{Unit}
@@ -34,4 +35,4 @@ fresh capacity owners = record {
 }
 
 unfoldable pub freshStore : ℕ → ℕ → List ℕ → Store
-freshStore capacity slots medium = record { unit = freshUnit capacity; pool = record { owners = zeros slots; medium = medium } }
+freshStore capacity slots medium = record { unit = freshUnit capacity; pool = pool (zeros slots) medium }

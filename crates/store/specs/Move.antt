@@ -5,63 +5,68 @@ use mathlib.Core.List.{List, [], _∷_}
 use Prim.Native.Nat.{ℕ, _+_, _*_}
 use lib.Dec.{leb, ltb}
 use lib.ListN.{length}
-use Rattle.answers.specs.declared.Answer.the-variants.{Conflict, Short}
+use Rattle.answers.specs.declared.Answer.the-variants.{Short}
 use Rattle.answers.specs.Answers.{outOfRange, listLength, listField, noRoom}
 use Rattle.answers.specs.Order.{Row, _if_}
 use Rattle.pool.specs.Bounds.{blockBytes}
-use Rattle.pool.specs.Pool.{Pool, readBlocks, writeBlocks, roomFor}
+use Rattle.pool.specs.Pool.{Pool, withOwners, readBlocks, writeBlocks, roomFor}
 use Rattle.descriptors.specs.Descriptors.{mostDescriptors, considered, someFails, unmapAll}
 use Rattle.rights.specs.declared.Access.{Access}
 use Rattle.rights.specs.declared.Access.the-variants.{Reads, Writes}
-use Rattle.rights.specs.Conflict.{conflict}
 use Rattle.forms.specs.declared.Move.{Move}
 use Rattle.forms.specs.declared.Move.the-variants.{Read, Write, Unmap}
-use Rattle.forms.specs.declared.Form.{Form}
-use Rattle.forms.specs.Forms.{addressOf, countOf, listLengthOf}
-use Rattle.store.specs.declared.Unit.{Unit}
+use Rattle.forms.specs.declared.Request.{Request}
+use Rattle.forms.specs.Forms.{countIn, listLengthIn}
 use Rattle.store.specs.Store.{Call}
 
+-- what a command wants of the blocks
 unfoldable pub access : Move → Access
 access Read = Reads
 access Write = Writes
 access Unmap = Writes
 
 -- "block address + count > capacity"; the sum is one of numbers and cannot wrap
-unfoldable pub pastEnd : Form → ℕ → List ℕ → Bool
-pastEnd f capacity cdb = ltb capacity (addressOf f cdb + countOf f cdb)
+unfoldable pub pastEnd : ℕ → ℕ → ℕ → Bool
+pastEnd capacity address count = ltb capacity (address + count)
 
 -- "READ: 10, 3, 12. WRITE: 10, 3, 12, 8."
 -- "UNMAP: 10; list length 0 gives GOOD; length 1 to 7 gives 4; 12; more than 16 descriptors 5; 3 if any descriptor fails."
--- These are the tests after the 10.
-unfoldable pub rangeRows : Form → Move → ℕ → Pool → Call → List Row
-rangeRows f Read capacity p c =
-    outOfRange if pastEnd f capacity (c .cdb)
-    ∷ Short if ltb (length (c .dataIn)) (blockBytes * countOf f (c .cdb))
-    ∷ []
-rangeRows f Write capacity p c =
-    outOfRange if pastEnd f capacity (c .cdb)
-    ∷ Short if ltb (length (c .dataOut)) (blockBytes * countOf f (c .cdb))
-    ∷ noRoom if not (roomFor (p .owners) (addressOf f (c .cdb)) (countOf f (c .cdb)))
-    ∷ []
-rangeRows f Unmap capacity p c =
-    listLength if (leb 1 (listLengthOf f (c .cdb)) && leb (listLengthOf f (c .cdb)) 7)
-    ∷ Short if ltb (length (c .dataOut)) (listLengthOf f (c .cdb))
-    ∷ listField if ltb mostDescriptors (considered (listLengthOf f (c .cdb)) (c .dataOut))
-    ∷ outOfRange if someFails capacity (c .dataOut) 8 (considered (listLengthOf f (c .cdb)) (c .dataOut))
+-- These are the tests after the 10, of the blocks from `address` on.
+unfoldable pub readRows : ℕ → ℕ → ℕ → List ℕ → List Row
+readRows capacity address count dataIn =
+    outOfRange if pastEnd capacity address count
+    ∷ Short if ltb (length dataIn) (blockBytes * count)
     ∷ []
 
-unfoldable pub moveRows : Form → Move → Unit → Pool → Call → List Row
-moveRows f m u p c = Conflict if conflict (u .rights) (c .nexus) (access m) ∷ rangeRows f m (u .capacity) p c
+unfoldable pub writeRows : ℕ → List ℕ → ℕ → ℕ → List ℕ → List Row
+writeRows capacity owners address count dataOut =
+    outOfRange if pastEnd capacity address count
+    ∷ Short if ltb (length dataOut) (blockBytes * count)
+    ∷ noRoom if not (roomFor owners address count)
+    ∷ []
+
+-- of a parameter list of n bytes
+unfoldable pub unmapRows : ℕ → ℕ → List ℕ → List Row
+unmapRows capacity n dataOut =
+    listLength if (leb 1 n && leb n 7)
+    ∷ Short if ltb (length dataOut) n
+    ∷ listField if ltb mostDescriptors (considered n dataOut)
+    ∷ outOfRange if someFails capacity dataOut 8 (considered n dataOut)
+    ∷ []
+
+unfoldable pub moveRows : Move → Request → ℕ → Pool → Call → List Row
+moveRows Read q capacity p c = readRows capacity (q .address .0) (countIn q) (c .dataIn)
+moveRows Write q capacity p c = writeRows capacity (p .owners) (q .address .0) (countIn q) (c .dataOut)
+moveRows Unmap q capacity p c = unmapRows capacity (listLengthIn q) (c .dataOut)
 
 -- the pool after a command that nothing refuses
-unfoldable pub moved : Form → Move → Pool → Call → Pool
-moved f Read p c = p
-moved f Write p c = writeBlocks p (addressOf f (c .cdb)) (countOf f (c .cdb)) (c .dataOut)
-moved f Unmap p c =
-    record { owners = unmapAll (p .owners) (c .dataOut) 8 (considered (listLengthOf f (c .cdb)) (c .dataOut)); medium = p .medium }
+unfoldable pub moved : Move → Request → Pool → Call → Pool
+moved Read q p c = p
+moved Write q p c = writeBlocks p (q .address .0) (countIn q) (c .dataOut)
+moved Unmap q p c = withOwners p (unmapAll (p .owners) (c .dataOut) 8 (considered (listLengthIn q) (c .dataOut)))
 
 -- the bytes that it returns
-unfoldable pub fetched : Form → Move → Pool → Call → List ℕ
-fetched f Read p c = readBlocks p (addressOf f (c .cdb)) (countOf f (c .cdb))
-fetched f Write p c = []
-fetched f Unmap p c = []
+unfoldable pub fetched : Move → Request → Pool → List ℕ
+fetched Read q p = readBlocks p (q .address .0) (countIn q)
+fetched Write q p = []
+fetched Unmap q p = []

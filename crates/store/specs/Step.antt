@@ -1,25 +1,30 @@
 -- One call: the one order of tests, and what comes of it.
 -- Assumes nothing.
-use mathlib.Core.Bool.{not}
+use mathlib.Core.Bool.{Bool, false, not}
 use mathlib.Core.List.{List, [], _∷_, _++_}
 use Prim.Native.Nat.{ℕ}
 use lib.Dec.{eqb, ltb}
 use lib.ListN.{length}
 use Rattle.answers.specs.declared.Answer.{Answer}
-use Rattle.answers.specs.declared.Answer.the-variants.{Unusable}
+use Rattle.answers.specs.declared.Answer.the-variants.{Conflict, Unusable}
 use Rattle.answers.specs.Answers.{senseBytes}
-use Rattle.answers.specs.Order.{Row, _if_, first, ifGood}
+use Rattle.answers.specs.Order.{Row, _if_, first}
+use Rattle.rights.specs.declared.Rights.{Rights}
 use Rattle.rights.specs.Bounds.{lastNexus}
+use Rattle.rights.specs.Conflict.{conflict}
 use Rattle.rights.specs.Actions.{acted}
 use Rattle.forms.specs.declared.Command.{Command}
-use Rattle.forms.specs.declared.Command.the-variants.{Tells, Moves, Alters, Unknown, Unlisted}
-use Rattle.forms.specs.declared.Form.{Form}
-use Rattle.forms.specs.Forms.{formOf}
-use Rattle.forms.specs.Tests.{formRows}
-use Rattle.store.specs.Store.{Store, Call, Result, usable, seenOf}
+use Rattle.forms.specs.declared.Command.the-variants.{Tells, Moves, Alters}
+use Rattle.forms.specs.declared.Entry.{Entry}
+use Rattle.forms.specs.declared.Request.{Request}
+use Rattle.forms.specs.Forms.{entryOf, Asked, nothing, asks, askedIn, allocationIn}
+use Rattle.forms.specs.Tests.{codeRows, lengthRows, fieldRows}
+use Rattle.store.specs.Store.{Store, Call, Result, withRights, withUnit, withPool, usable, leaves, seenOf}
 use Rattle.store.specs.Tell.{told, tellRows}
-use Rattle.store.specs.Move.{moveRows, moved, fetched}
+use Rattle.store.specs.Move.{access, moveRows, moved, fetched}
 use Rattle.store.specs.Alter.{parametersOf, alterRows}
+
+-- ---- the order, stage by stage
 
 -- "First 11: nexus above 15, empty CDB, sense buffer under 18 bytes"
 unfoldable pub callRows : Call → List Row
@@ -33,49 +38,69 @@ callRows c =
 unfoldable pub storeRows : Store → List Row
 storeRows s = Unusable if not (usable s) ∷ []
 
--- "Then:" each command's own
-unfoldable pub ownRows : Form → Command → Store → Call → List Row
-ownRows f (Tells t) s c = tellRows f t (s .unit) c
-ownRows f (Moves m) s c = moveRows f m (s .unit) (s .pool) c
-ownRows f (Alters a) s c = alterRows f a (s .unit .rights) c
-ownRows f Unknown s c = []
-ownRows f Unlisted s c = []
+-- is a command in conflict with the reservation: those on the blocks alone are guarded by it
+unfoldable pub guarded : Command → Rights → ℕ → Bool
+guarded (Tells t) r n = false
+guarded (Moves m) r n = conflict r n (access m)
+guarded (Alters a) r n = false
 
-unfoldable pub answerBy : Form → Store → Call → Answer
-answerBy f s c = first (callRows c ++ (storeRows s ++ (formRows f (f .command) (c .cdb) ++ ownRows f (f .command) s c)))
+-- "READ: 10, … WRITE: 10, … UNMAP: 10; …"
+unfoldable pub guardRows : Asked → Rights → ℕ → List Row
+guardRows nothing r n = []
+guardRows (asks q) r n = Conflict if guarded (q .command) r n ∷ []
+
+-- "Then 1. Then 11 again …. Then 2: …", and the 10 of the commands on the blocks
+unfoldable pub stageRows : Entry → Rights → ℕ → List ℕ → List Row
+stageRows e r n cdb = codeRows e ++ (lengthRows e cdb ++ (fieldRows e cdb ++ guardRows (askedIn e cdb) r n))
+
+-- "Then:" each command's own
+unfoldable pub commandRows : Command → Request → Store → Call → List Row
+commandRows (Tells t) q s c = tellRows t (allocationIn q) (s .unit) (c .dataIn)
+commandRows (Moves m) q s c = moveRows m q (s .unit .capacity) (s .pool) c
+commandRows (Alters a) q s c = alterRows a q (s .unit .rights) (c .nexus) (c .dataOut)
+
+unfoldable pub ownRows : Asked → Store → Call → List Row
+ownRows nothing s c = []
+ownRows (asks q) s c = commandRows (q .command) q s c
+
+unfoldable pub answerBy : Entry → Store → Call → Answer
+answerBy e s c =
+    first (callRows c ++ (storeRows s ++ (stageRows e (s .unit .rights) (c .nexus) (c .cdb) ++ ownRows (askedIn e (c .cdb)) s c)))
 
 -- ---- what comes of a call that nothing refuses
 
 -- the bytes returned
-unfoldable pub dataBy : Form → Command → Store → Call → List ℕ
-dataBy f (Tells t) s c = told f t (s .unit) (c .cdb)
-dataBy f (Moves m) s c = fetched f m (s .pool) c
-dataBy f (Alters a) s c = []
-dataBy f Unknown s c = []
-dataBy f Unlisted s c = []
+unfoldable pub commandData : Command → Request → Store → List ℕ
+commandData (Tells t) q s = told t (allocationIn q) (s .unit)
+commandData (Moves m) q s = fetched m q (s .pool)
+commandData (Alters a) q s = []
+
+unfoldable pub dataBy : Asked → Store → List ℕ
+dataBy nothing s = []
+dataBy (asks q) s = commandData (q .command) q s
 
 -- the store: a command that tells changes nothing, one that moves changes the pool alone, one that alters changes the rights alone
-unfoldable pub storeBy : Form → Command → Store → Call → Store
-storeBy f (Tells t) s c = s
-storeBy f (Moves m) s c = record { unit = s .unit; pool = moved f m (s .pool) c }
-storeBy f (Alters a) s c = record {
-  unit = record { capacity = s .unit .capacity; rights = acted a (s .unit .rights) (c .nexus) (parametersOf (c .cdb) (c .dataOut)) };
-  pool = s .pool;
-}
-storeBy f Unknown s c = s
-storeBy f Unlisted s c = s
+unfoldable pub commandStore : Command → Request → Store → Call → Store
+commandStore (Tells t) q s c = s
+commandStore (Moves m) q s c = withPool s (moved m q (s .pool) c)
+commandStore (Alters a) q s c =
+    withUnit s (withRights (s .unit) (acted a (s .unit .rights) (c .nexus) (parametersOf q (c .dataOut))))
 
--- ---- the step; "A refused command leaves the medium, the map, the reservations and the data buffer unchanged"
+unfoldable pub storeBy : Asked → Store → Call → Store
+storeBy nothing s c = s
+storeBy (asks q) s c = commandStore (q .command) q s c
 
-unfoldable pub stepBy : Form → Store → Call → Result
-stepBy f s c = record {
-  seen = seenOf (answerBy f s c) (dataBy f (f .command) s c) c;
-  store = ifGood (answerBy f s c) (storeBy f (f .command) s c) s;
+-- ---- the step
+
+unfoldable pub stepBy : Entry → Store → Call → Result
+stepBy e s c = record {
+  seen = seenOf (answerBy e s c) (dataBy (askedIn e (c .cdb)) s) c;
+  store = leaves (answerBy e s c) (storeBy (askedIn e (c .cdb)) s c) s;
 }
 
 unfoldable pub step : Store → Call → Result
-step s c = stepBy (formOf (c .cdb)) s c
+step s c = stepBy (entryOf (c .cdb)) s c
 
 -- the answer alone
 unfoldable pub answerTo : Store → Call → Answer
-answerTo s c = answerBy (formOf (c .cdb)) s c
+answerTo s c = answerBy (entryOf (c .cdb)) s c

@@ -10,6 +10,7 @@ use Rattle.answers.specs.Answers.{senseAfter}
 use Rattle.answers.specs.Order.{ifGood}
 use Rattle.pool.specs.Pool.{Pool}
 use Rattle.pool.specs.Valid.{capacityOk, poolOk}
+use Rattle.rights.specs.declared.Rights.{Rights}
 use Rattle.rights.specs.Rights.{rightsOk}
 use Rattle.store.specs.declared.Unit.{Unit}
 
@@ -37,6 +38,19 @@ pub record Result : Type 0 where
   pub seen : Seen
   pub store : Store
 
+-- ---- changes by name: what is not named stays
+
+abbrev pub withRights : Unit → Rights → Unit
+withRights u rights = record { capacity = u .capacity; rights = rights }
+
+abbrev pub withUnit : Store → Unit → Store
+withUnit s unit = record { unit = unit; pool = s .pool }
+
+abbrev pub withPool : Store → Pool → Store
+withPool s pool = record { unit = s .unit; pool = pool }
+
+-- ---- when a store can be used
+
 -- within its bounds and valid, as far as everybody may know
 unfoldable pub unitOk : Unit → Bool
 unitOk u = capacityOk (u .capacity) && rightsOk (u .rights)
@@ -44,6 +58,12 @@ unitOk u = capacityOk (u .capacity) && rightsOk (u .rights)
 -- within its bounds, lent its whole pool, and in a valid state
 unfoldable pub usable : Store → Bool
 usable s = unitOk (s .unit) && poolOk (s .unit .capacity) (s .pool)
+
+-- ---- what an answer leaves
+
+-- "A refused command leaves the medium, the map, the reservations and the data buffer unchanged"
+unfoldable pub leaves : Answer → Store → Store → Store
+leaves a done s = ifGood a done s
 
 -- "Data-in is written only on 0, and only its first returned bytes."
 unfoldable pub seenOf : Answer → List ℕ → Call → Seen

@@ -3,6 +3,7 @@
 use rights::Rights;
 
 // The record of one unit: all that everybody may know of it.
+#[repr(C)]
 pub struct Unit {
     pub capacity: u64,
     pub rights: Rights,

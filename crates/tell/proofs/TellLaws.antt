@@ -1,14 +1,14 @@
 -- Commands that tell, by the ways through their rows.
 -- Assumes nothing.
 use mathlib.Core.Path.{_≡_, refl, sym, ap, _∙_}
-use mathlib.Core.Bool.{Bool, true, false, cond}
+use mathlib.Core.Bool.{Bool, true, false}
 use mathlib.Core.List.{List, [], _∷_}
 use Prim.Native.Nat.{ℕ, _-_, _≤_, _<_, min}
 use native.Mathlib.Omega.{arith}
-use lib.Dec.{eqb, leb, ltb}
+use lib.Dec.{leb, ltb}
 use lib.ListN.{length, take, getD, length-take}
 use lib.Seq.{take-all}
-use borrow.Author.Tests.{lt-ltb, le-ltb, eq-eqb, ne-eqb, leb-true, leb-false}
+use borrow.Author.Tests.{lt-ltb, le-ltb, leb-true, leb-false}
 use Rattle.fields.specs.Bytes.{put, zeros}
 use Rattle.fields.specs.Field.{bytes}
 use Rattle.fields.proofs.BytesLaws.{put-none}
@@ -18,13 +18,10 @@ use Rattle.answers.proofs.OrderLaws.{row-pass, row-stop, row-end}
 use Rattle.rights.specs.Told.{keysData, reservationData}
 use Rattle.forms.specs.declared.Tell.{Tell}
 use Rattle.forms.specs.declared.Tell.the-variants.{Ready, Inquiry, Capacity10, Capacity16, Keys, Reservation}
-use Rattle.forms.specs.declared.Form.{Form}
-use Rattle.forms.specs.Forms.{sizeOf}
 use Rattle.store.specs.declared.Unit.{Unit}
-use Rattle.store.specs.Tell.{inquiryData, capacity10Data, capacity16Data, available, told, tellRows}
-use Rattle.reply.specs.Contract.{asking}
+use Rattle.store.specs.Tell.{inquiryData, capacity10Data, capacity16Data, told, tellRows}
 use Rattle.reply.specs.Reply.{Replied, replyOf}
-use Rattle.tell.specs.Cut.{cut, allowed}
+use Rattle.tell.specs.Cut.{gives, tells}
 use Rattle.reply.proofs.ReplyLaws.{plain, reply-refused, reply-done}
 
 -- ---- the parameter data of READ CAPACITY
@@ -41,107 +38,77 @@ capacity16-is a capacity e = rw e
 
 -- ---- cut to the allocation length
 
-module _ (f : Form) (cdb : List ℕ) where
-  pub allowed-all : (n : ℕ) → f .size .width ≡ 0 → n ≡ allowed f cdb n
-  unfolding allowed
-  allowed-all n e = rw (eq-eqb _ _ e)
+take-least : (n : ℕ) (bs : List ℕ) → take (min n (length bs)) bs ≡ take n bs
+take-least n bs = go (leb n (length bs)) refl
+  where
+    go : (b : Bool) → leb n (length bs) ≡ b → take (min n (length bs)) bs ≡ take n bs
+    go true e =
+        let h : n ≤ length bs = leb-true _ _ e in
+        let k : min n (length bs) ≡ n = omega arith in
+        rw k
+    go false e =
+        let h : length bs < n = leb-false _ _ e in
+        take-all (min n (length bs)) bs (omega arith) ∙ sym (take-all n bs (omega arith))
 
-  pub allowed-whole : (n k : ℕ) → k ≡ sizeOf f cdb → (f .size .width ≡ 0 → ⊥) → n ≤ k → n ≡ allowed f cdb n
-  unfolding allowed
-  allowed-whole n k e h l = rw (ne-eqb _ _ h, ← e) (omega arith)
+module _ (n : ℕ) (bs dataIn : List ℕ) (m : ℕ) (e : m ≡ min n (length bs)) where
+  cut-length : length (take n bs) ≡ m
+  cut-length = length-take n bs ∙ sym e
 
-  pub allowed-cut : (n k : ℕ) → k ≡ sizeOf f cdb → (f .size .width ≡ 0 → ⊥) → k < n → k ≡ allowed f cdb n
-  unfolding allowed
-  allowed-cut n k e h l = rw (ne-eqb _ _ h, ← e) (omega arith)
+  cut-take : take m bs ≡ take n bs
+  cut-take = ap (λ (k : ℕ). take k bs) e ∙ take-least n bs
 
-  take-least : (n : ℕ) (bs : List ℕ) → take (min n (length bs)) bs ≡ take n bs
-  take-least n bs = go (leb n (length bs)) refl
-    where
-      go : (b : Bool) → leb n (length bs) ≡ b → take (min n (length bs)) bs ≡ take n bs
-      go true e =
-          let h : n ≤ length bs = leb-true _ _ e in
-          let k : min n (length bs) ≡ n = omega arith in
-          rw k
-      go false e =
-          let h : length bs < n = leb-false _ _ e in
-          take-all (min n (length bs)) bs (omega arith) ∙ sym (take-all n bs (omega arith))
+  pub give-short : length dataIn < m → plain Short dataIn ≡ gives (take n bs) dataIn
+  unfolding refuses
+  give-short h =
+      reply-refused _ Short _ dataIn (row-stop Short _ _ (ap (ltb (length dataIn)) cut-length ∙ lt-ltb (length dataIn) m h)) tt
 
-  cut-is : (b : Bool) (bs : List ℕ)
-      → cond b bs (take (sizeOf f cdb) bs) ≡ take (cond b (length bs) (min (sizeOf f cdb) (length bs))) bs
-  cut-is true bs = sym (take-all (length bs) bs (omega arith))
-  cut-is false bs = sym (take-least (sizeOf f cdb) bs)
+  pub give-done : (after : List ℕ) → m ≤ length dataIn → after ≡ put dataIn 0 (take m bs)
+      → record { answer = Good; returned = m; dataIn = after } ≡ gives (take n bs) dataIn
+  give-done after h k =
+      reply-done _ _ dataIn m after
+      (row-pass Short _ _ (ap (ltb (length dataIn)) cut-length ∙ le-ltb (length dataIn) m h) ∙ row-end)
+      (sym cut-length)
+      (k ∙ ap (put dataIn 0) cut-take)
 
-  pub cut-take : (bs : List ℕ) → take (allowed f cdb (length bs)) bs ≡ cut f cdb bs
-  unfolding allowed cut
-  cut-take bs = sym (cut-is (eqb (f .size .width) 0) bs)
+-- ---- what is told is what is there, cut
 
-  module _ (bs dataIn : List ℕ) (n : ℕ) (few : n ≤ length bs) (e : n ≡ allowed f cdb (length bs)) where
-    cut-length : length (cut f cdb bs) ≡ n
-    cut-length = ap length (sym (cut-take bs)) ∙ rw (← e) (length-take n bs ∙ omega arith)
+pub give-told : (t : Tell) (n : ℕ) (u : Unit) (dataIn bs : List ℕ) (v : Replied) → bs ≡ told t n u → v ≡ gives bs dataIn → v ≡ tells t n u dataIn
+unfolding tellRows
+give-told t n u dataIn bs v e h = rw (← e) h
 
-    pub give-short : length dataIn < n
-        → plain Short dataIn ≡ replyOf (first (Short if ltb (length dataIn) (length (cut f cdb bs)) ∷ [])) (cut f cdb bs) dataIn
-    unfolding refuses
-    give-short h =
-        reply-refused _ Short _ dataIn (row-stop Short _ _ (ap (ltb (length dataIn)) cut-length ∙ lt-ltb (length dataIn) n h)) tt
+module _ (t : Tell) (n : ℕ) (u : Unit) where
+  pub told-nothing : t ≡ Ready → told t n u ≡ []
+  unfolding told
+  told-nothing e = rw e
 
-    pub give-done : (after : List ℕ) → n ≤ length dataIn → after ≡ put dataIn 0 (take n bs)
-        → record { answer = Good; returned = n; dataIn = after } ≡ replyOf (first (Short if ltb (length dataIn) (length (cut f cdb bs)) ∷ [])) (cut f cdb bs) dataIn
-    give-done after h k =
-        reply-done _ _ dataIn n after
-        (row-pass Short _ _ (ap (ltb (length dataIn)) cut-length ∙ le-ltb (length dataIn) n h) ∙ row-end)
-        (sym cut-length)
-        (k ∙ ap (put dataIn 0) (ap (λ (m : ℕ). take m bs) e ∙ cut-take bs))
+  pub told-inquiry : (bs : List ℕ) → bs ≡ inquiryData → t ≡ Inquiry → take n bs ≡ told t n u
+  unfolding told
+  told-inquiry bs h e = rw (e, h)
 
--- what is told is what is there, cut
-pub give-told : (f : Form) (t : Tell) (u : Unit) (cdb dataIn bs : List ℕ) (v : Replied) → bs ≡ available t u
-    → v ≡ replyOf (first (Short if ltb (length dataIn) (length (cut f cdb bs)) ∷ [])) (cut f cdb bs) dataIn
-    → v ≡ replyOf (first (tellRows f t u (asking cdb dataIn))) (told f t u cdb) dataIn
-unfolding tellRows told cut
-give-told f t u cdb dataIn bs v e h = rw (← e) h
+  pub told-capacity10 : (bs : List ℕ) → bs ≡ capacity10Data (u .capacity) → t ≡ Capacity10 → take 8 bs ≡ told t n u
+  unfolding told capacity10Data bytes
+  told-capacity10 bs h e = rw (e, h)
 
-module _ (t : Tell) (u : Unit) where
-  pub there-inquiry : t ≡ Inquiry → inquiryData ≡ available t u
-  unfolding available
-  there-inquiry e = rw e
+  pub told-capacity16 : (bs : List ℕ) → bs ≡ capacity16Data (u .capacity) → t ≡ Capacity16 → take n bs ≡ told t n u
+  unfolding told
+  told-capacity16 bs h e = rw (e, h)
 
-  pub there-capacity10 : t ≡ Capacity10 → capacity10Data (u .capacity) ≡ available t u
-  unfolding available
-  there-capacity10 e = rw e
+  pub told-keys : (bs : List ℕ) → bs ≡ keysData (u .rights) → t ≡ Keys → take n bs ≡ told t n u
+  unfolding told
+  told-keys bs h e = rw (e, h)
 
-  pub there-capacity16 : t ≡ Capacity16 → capacity16Data (u .capacity) ≡ available t u
-  unfolding available
-  there-capacity16 e = rw e
-
-  pub there-keys : t ≡ Keys → keysData (u .rights) ≡ available t u
-  unfolding available
-  there-keys e = rw e
-
-  pub there-reservation : t ≡ Reservation → reservationData (u .rights) ≡ available t u
-  unfolding available
-  there-reservation e = rw e
+  pub told-reservation : (bs : List ℕ) → bs ≡ reservationData (u .rights) → t ≡ Reservation → take n bs ≡ told t n u
+  unfolding told
+  told-reservation bs h e = rw (e, h)
 
 -- TEST UNIT READY has nothing to tell
-told-ready : (f : Form) (u : Unit) (cdb : List ℕ) → told f Ready u cdb ≡ []
-unfolding told available
-told-ready f u cdb = go (eqb (f .size .width) 0)
-  where
-    go : (b : Bool) → _≡_ {A = List ℕ} (cond b [] (take (sizeOf f cdb) [])) []
-    go true = refl
-    go false = take-all (sizeOf f cdb) [] (omega arith)
-
-tell-ready : (f : Form) (u : Unit) (cdb dataIn : List ℕ)
-    → plain Good dataIn ≡ replyOf (first (tellRows f Ready u (asking cdb dataIn))) (told f Ready u cdb) dataIn
+pub tell-nothing : (t : Tell) (n : ℕ) (u : Unit) (dataIn : List ℕ) → t ≡ Ready → plain Good dataIn ≡ tells t n u dataIn
 unfolding tellRows
-tell-ready f u cdb dataIn =
+tell-nothing t n u dataIn e =
     reply-done _ _ dataIn 0 dataIn
     (row-pass Short _ _ (ap (λ (l : List ℕ). ltb (length dataIn) (length l)) nothing ∙ le-ltb (length dataIn) 0 (omega arith)) ∙ row-end)
     (ap length (sym nothing))
     (sym (put-none dataIn 0) ∙ ap (put dataIn 0) (sym nothing))
   where
-    nothing : told f Ready u cdb ≡ []
-    nothing = told-ready f u cdb
-
-pub tell-nothing : (f : Form) (t : Tell) (u : Unit) (cdb dataIn : List ℕ) → t ≡ Ready
-    → plain Good dataIn ≡ replyOf (first (tellRows f t u (asking cdb dataIn))) (told f t u cdb) dataIn
-tell-nothing f t u cdb dataIn e = rw e (tell-ready f u cdb dataIn)
+    nothing : told t n u ≡ []
+    nothing = told-nothing t n u e

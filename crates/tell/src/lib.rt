@@ -1,40 +1,32 @@
 // Commands that tell what everybody may know. Each builds all that is there to be told; one function cuts and lends it.
 ghost use mathlib.Core.Path.{_≡_};
-ghost use Prim.Native.Nat.{_≤_};
-ghost use Rattle.decoder.specs.Sound.{Sound};
+ghost use Prim.Native.Nat.{_≤_, min};
+ghost use lib.ListN.{take};
 ghost use Rattle.reply.specs.Reply.{replied};
-ghost use Rattle.tell.specs.Cut.{allowed, gives, tells};
+ghost use Rattle.tell.specs.Cut.{gives, tells};
 use answers::Answer;
-use forms::Form;
 use forms::Tell;
 use reply::Reply;
 use store::Unit;
 
 mod pages;
 
-// How many of the bytes there the allocation length lets through; a row without one lets all through.
-fn cut_to(form: Form, cdb: &[u8], available: usize) -> usize
-    requires { ⌜ Sound form ⌝ }
-    ensures { λ r. ⌜ (r ≤ available) × (r ≡ allowed form (now (cdb .entry)) available) ⌝ }
+// How many of the bytes there the allocation length lets through.
+fn cut_to(allocation: u64, available: usize) -> usize
+    ensures { λ r. ⌜ r ≡ min allocation available ⌝ }
 {
-    let span = form.size;
-    if span.width == 0 {
-        return available;
-    }
-    let allocation = decoder::size(form, cdb) as usize;
-    if available <= allocation {
+    if available as u64 <= allocation {
         available
     } else {
-        allocation
+        allocation as usize
     }
 }
 
 // The bytes there, cut to the allocation length, go to data-in where it has room for them.
-fn give(form: Form, cdb: &[u8], bytes: &[u8], data_in: &mut [u8]) -> Reply
-    requires { ⌜ Sound form ⌝ }
-    ensures { λ r. ⌜ replied r (now («data_in» .exit)) ≡ gives form (now (cdb .entry)) (now (bytes .entry)) (now («data_in» .entry)) ⌝ }
+fn give(allocation: u64, bytes: &[u8], data_in: &mut [u8]) -> Reply
+    ensures { λ r. ⌜ replied r (now («data_in» .exit)) ≡ gives (take allocation (now (bytes .entry))) (now («data_in» .entry)) ⌝ }
 {
-    let n = cut_to(form, cdb, bytes.len());
+    let n = cut_to(allocation, bytes.len());
     if data_in.len() < n {
         return Reply {
             answer: Answer::Short,
@@ -48,9 +40,9 @@ fn give(form: Form, cdb: &[u8], bytes: &[u8], data_in: &mut [u8]) -> Reply
     }
 }
 
-pub fn tell(form: Form, what: Tell, unit: Unit, cdb: &[u8], data_in: &mut [u8]) -> Reply
-    requires { ⌜ Sound form × (1 ≤ unit .capacity) ⌝ }
-    ensures { λ r. ⌜ replied r (now («data_in» .exit)) ≡ tells form what unit (now (cdb .entry)) (now («data_in» .entry)) ⌝ }
+pub fn tell(what: Tell, allocation: u64, unit: Unit, data_in: &mut [u8]) -> Reply
+    requires { ⌜ 1 ≤ unit .capacity ⌝ }
+    ensures { λ r. ⌜ replied r (now («data_in» .exit)) ≡ tells what allocation unit (now («data_in» .entry)) ⌝ }
 {
     match what {
         Tell::Ready => Reply {
@@ -59,29 +51,29 @@ pub fn tell(form: Form, what: Tell, unit: Unit, cdb: &[u8], data_in: &mut [u8]) 
         },
         Tell::Inquiry => {
             let bytes = pages::inquiry();
-            give(form, cdb, &bytes, data_in)
+            give(allocation, &bytes, data_in)
         }
         Tell::Capacity10 => {
             let bytes = pages::capacity10(unit.capacity);
-            give(form, cdb, &bytes, data_in)
+            give(8, &bytes, data_in)
         }
         Tell::Capacity16 => {
             let bytes = pages::capacity16(unit.capacity);
-            give(form, cdb, &bytes, data_in)
+            give(allocation, &bytes, data_in)
         }
         Tell::Keys => {
             let rights = unit.rights;
             let page = told::keys_data(rights);
             let bytes = page.bytes;
             let n = page.len;
-            give(form, cdb, &bytes[..n], data_in)
+            give(allocation, &bytes[..n], data_in)
         }
         Tell::Reservation => {
             let rights = unit.rights;
             let page = told::reservation_data(rights);
             let bytes = page.bytes;
             let n = page.len;
-            give(form, cdb, &bytes[..n], data_in)
+            give(allocation, &bytes[..n], data_in)
         }
     }
 }

@@ -2,7 +2,7 @@
 -- Assumes nothing.
 use mathlib.Core.Path.{_≡_}
 use mathlib.Core.Bool.{cond}
-use mathlib.Core.List.{List, [], _∷_, _++_}
+use mathlib.Core.List.{List, [], _++_}
 use Prim.Native.Nat.{ℕ, _+_, _-_, _≤_}
 use lib.ListN.{length, take, drop}
 use Rattle.fields.specs.Bytes.{zeros}
@@ -31,4 +31,4 @@ placeKey p = cond (used p) (bytes 8 (p .key)) []
 
 -- what a reservation adds to the generation
 unfoldable pub reservationBody : ℕ → ℕ → List ℕ
-reservationBody key kind = bytes 4 16 ++ (bytes 8 key ++ (zeros 5 ++ (kind ∷ zeros 2)))
+reservationBody key kind = bytes 4 16 ++ (bytes 8 key ++ (zeros 2 ++ (bytes 4 kind ++ zeros 2)))

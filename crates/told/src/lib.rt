@@ -43,10 +43,11 @@ pub fn reservation_data(rights: Rights) -> Page
     append(head, &body)
 }
 
-fn reservation_body(key: u64, kind: u8) -> [u8; 20]
+fn reservation_body(key: u64, kind: u32) -> [u8; 20]
     ensures { λ r. ⌜ r ≡ reservationBody key kind ⌝ }
 {
     let k = fields::numbers::bytes8(key);
+    let t = fields::numbers::bytes4(kind);
     [
         0,
         0,
@@ -62,10 +63,10 @@ fn reservation_body(key: u64, kind: u8) -> [u8; 20]
         k[7],
         0,
         0,
-        0,
-        0,
-        0,
-        kind,
+        t[0],
+        t[1],
+        t[2],
+        t[3],
         0,
         0,
     ]

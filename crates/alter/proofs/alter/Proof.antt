@@ -1,21 +1,17 @@
 -- `alter::alter` meets its contract. Assumes nothing.
 use mathlib.Core.Path.{_∙_}
-use borrow.Author.Needs.{needs}
 use Rattle.alter.proofs.AlterLaws.{alter-length, alter-short, alter-decided}
 use Rattle.alter.proofs.alter.Statement.{statement}
 use Rattle.alter.proofs.alter.Tie as tie
-
-size-requires : tie.Need-size-requires
-size-requires c κs = search needs
 
 list-length-requires : tie.Need-list-length-requires
 list-length-requires c κs = tt
 
 returns : tie.Need-returns
-returns c = alter-length _ _ _ _ _ (c .before .before .size .ensures .0) _ (c .list-length .ensures) (c .before .if1 .taken)
+returns c = alter-length _ _ _ _ _ _ (c .list-length .ensures) (c .before .if1 .taken)
 
 returns-2 : tie.Need-returns-2
-returns-2 c = alter-short _ _ _ _ _ (c .before .before .size .ensures .0) (c .before .if1 .left) (c .if2 .taken)
+returns-2 c = alter-short _ _ _ _ _ (c .before .if1 .left) (c .if2 .taken)
 
 parameters-of-requires : tie.Need-parameters-of-requires
 parameters-of-requires c κs = tt
@@ -24,13 +20,12 @@ decide-requires : tie.Need-decide-requires
 decide-requires c κs = tt
 
 returns-3 : tie.Need-returns-3
-returns-3 c = (c .decide .ensures) ∙ rw (c .before .parameters-of .ensures) (alter-decided _ _ _ _ _ (c .before .before .before .before .size .ensures .0) (c .before .before .before .if1 .left) (c .before .before .if2 .left))
+returns-3 c = (c .decide .ensures) ∙ rw (c .before .parameters-of .ensures) (alter-decided _ _ _ _ _ (c .before .before .before .if1 .left) (c .before .before .if2 .left))
 
 pub alter-spec : {M : Type 1} → statement M
 alter-spec =
     tie.close
     (tie.spec
-    size-requires
     list-length-requires
     returns
     returns-2

@@ -4,32 +4,18 @@ use Rattle.store.specs.Alter.{parametersOf}
 use Rattle.alter.proofs.parameters_of.Statement.{statement}
 use Rattle.alter.proofs.parameters_of.Tie as tie
 
-byte-requires : tie.Need-byte-requires
-byte-requires c κs = tt
-
 number-requires : tie.Need-number-requires
 number-requires c κs = search needs
 
 number-requires-2 : tie.Need-number-requires-2
 number-requires-2 c κs = search needs
 
-byte-requires-2 : tie.Need-byte-requires-2
-byte-requires-2 c κs = tt
-
-flagged-requires : tie.Need-flagged-requires
-flagged-requires c κs = tt
+byte-requires : tie.Need-byte-requires
+byte-requires c κs = search needs
 
 returns : tie.Need-returns
 unfolding parametersOf
-returns c = simp ((c .before .before .before .before .byte .ensures), (c .before .before .before .number .ensures .0), (c .before .before .number2 .ensures .0), (c .before .byte2 .ensures), (c .flagged .ensures))
+returns c = simp ((c .before .before .number .ensures .0), (c .before .number2 .ensures .0), (c .byte .ensures))
 
 pub parameters-of-spec : {M : Type 1} → statement M
-parameters-of-spec =
-    tie.close
-    (tie.spec
-    byte-requires
-    number-requires
-    number-requires-2
-    byte-requires-2
-    flagged-requires
-    returns)
+parameters-of-spec = tie.close (tie.spec number-requires number-requires-2 byte-requires returns)

@@ -1,9 +1,9 @@
--- `answers::number_of` meets its contract.
--- Assumes nothing.
-use borrow.Author.Needs.{needs}
+-- `answers::number_of` meets its contract. Assumes nothing.
 use Rattle.answers.specs.Answers.{numberOf}
+use borrow.Author.Needs.{needs}
 use Rattle.answers.proofs.number_of.Statement.{statement}
 use Rattle.answers.proofs.number_of.Tie as tie
+use Rattle.answers.proofs.number_of.Reads as reads
 
 enum-told : tie.Need-enum-told
 enum-told c = search needs
@@ -11,8 +11,8 @@ enum-told c = search needs
 enum-known-a : tie.Need-enum-known-a
 enum-known-a c = search needs
 
-row-requires : tie.Need-row-requires
-row-requires c κs = search needs
+number-in-requires : tie.Need-number-in-requires
+number-in-requires c κs = search needs
 
 enum-told-2 : tie.Need-enum-told-2
 enum-told-2 c = search needs
@@ -29,7 +29,7 @@ returns c = simp (c .enum-told .given .1)
 
 returns-2 : tie.Need-returns-2
 unfolding numberOf
-returns-2 c = simp (c .before .before .a .given .1, c .row .ensures)
+returns-2 c = simp (c .before .before .a .given .1) (c .number-in .ensures)
 
 returns-3 : tie.Need-returns-3
 unfolding numberOf
@@ -49,7 +49,7 @@ number-of-spec =
     (tie.spec
     enum-told
     enum-known-a
-    row-requires
+    number-in-requires
     enum-told-2
     enum-told-3
     enum-told-4

@@ -31,11 +31,11 @@ free-all-requires c κs = tt
 same-length : tie.Need-same-length
 same-length c = search needs
 
-none-requires : tie.Need-none-requires
-none-requires c κs = tt
+fresh-unit-requires : tie.Need-fresh-unit-requires
+fresh-unit-requires c κs = tt
 
 returns-3 : tie.Need-returns-3
-returns-3 c = fresh-made _ _ _ _ (c .none .ensures) (sym (c .before .before .before .before .before .before .before .before .capacity-ok .ensures) ∙ not-false _ (c .before .before .before .before .before .before .before .if1 .left)) (sym (c .before .before .before .before .before .before .slots-ok .ensures) ∙ not-false _ (c .before .before .before .before .before .if2 .left)) (c .before .before .before .free-all .ensures)
+returns-3 c = fresh-made _ _ _ _ (c .fresh-unit .ensures) (sym (c .before .before .before .before .before .before .before .before .capacity-ok .ensures) ∙ not-false _ (c .before .before .before .before .before .before .before .if1 .left)) (sym (c .before .before .before .before .before .before .slots-ok .ensures) ∙ not-false _ (c .before .before .before .before .before .if2 .left)) (c .before .before .before .free-all .ensures)
 
 pub fresh-spec : {M : Type 1} → statement M
 fresh-spec =
@@ -48,6 +48,6 @@ fresh-spec =
     refused-requires-2
     returns-2
     free-all-requires
-    none-requires
+    fresh-unit-requires
     same-length
     returns-3)

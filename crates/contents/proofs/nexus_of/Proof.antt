@@ -14,9 +14,12 @@ add-byte c = search needs
 byte-requires : tie.Need-byte-requires
 byte-requires c κs = search needs
 
+cast-result : tie.Need-cast-result
+cast-result c = search needs
+
 returns : tie.Need-returns
 unfolding nexusOf
 returns c = c .byte .ensures
 
 pub nexus-of-spec : {M : Type 1} → statement M
-nexus-of-spec = tie.close (tie.spec mul-byte add-byte byte-requires returns)
+nexus-of-spec = tie.close (tie.spec mul-byte add-byte byte-requires cast-result returns)

@@ -10,11 +10,8 @@ use Rattle.lines.proofs.put_sense_text.Tie as tie
 enum-known-answer : tie.Need-enum-known-answer
 enum-known-answer c = search needs
 
-slice-aggregate-put-hex : tie.Need-slice-aggregate-put-hex
-slice-aggregate-put-hex c = search needs
-
-put-hex-requires : tie.Need-put-hex-requires
-put-hex-requires c κs = search needs
+put-codes-requires : tie.Need-put-codes-requires
+put-codes-requires c κs = search needs
 
 enum-told : tie.Need-enum-told
 enum-told c = search needs
@@ -33,7 +30,7 @@ same-length c = search needs
 
 returns : tie.Need-returns
 unfolding senseText
-returns c = (puts-as (sym (ap senseText (c .before .before .before .before .before .before .answer .given .1))) (c .before .before .put-hex .ensures .0), search needs)
+returns c = (puts-as (sym (ap senseText (c .before .before .before .before .before .answer .given .1))) (c .before .before .put-codes .ensures .0), search needs)
 
 returns-2 : tie.Need-returns-2
 unfolding senseText
@@ -56,8 +53,7 @@ put-sense-text-spec =
     tie.close
     (tie.spec
     enum-known-answer
-    slice-aggregate-put-hex
-    put-hex-requires
+    put-codes-requires
     enum-told
     enum-told-2
     enum-told-3

@@ -8,7 +8,7 @@ cut-to-requires : tie.Need-cut-to-requires
 cut-to-requires c κs = search needs
 
 returns : tie.Need-returns
-returns c = give-short _ _ _ _ _ (c .before .cut-to .ensures .0) (c .before .cut-to .ensures .1) (c .if1 .taken)
+returns c = give-short _ _ _ _ (c .before .cut-to .ensures) (c .if1 .taken)
 
 put-requires : tie.Need-put-requires
 put-requires c κs = search needs
@@ -17,7 +17,7 @@ same-length : tie.Need-same-length
 same-length c = search needs
 
 returns-2 : tie.Need-returns-2
-returns-2 c = give-done _ _ _ _ _ (c .before .before .before .before .before .cut-to .ensures .0) (c .before .before .before .before .before .cut-to .ensures .1) _ (c .before .before .before .before .if1 .left) (c .before .before .put .ensures)
+returns-2 c = give-done _ _ _ _ (c .before .before .before .before .before .cut-to .ensures) _ (c .before .before .before .before .if1 .left) (c .before .before .put .ensures)
 
 pub give-spec : {M : Type 1} → statement M
 give-spec = tie.close (tie.spec cut-to-requires returns put-requires same-length returns-2)

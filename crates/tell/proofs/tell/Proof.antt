@@ -3,7 +3,7 @@ use mathlib.Core.Path.{sym, ap, _∙_}
 use native.Mathlib.Omega.{arith}
 use lib.ListN.{length-take, length}
 use borrow.Author.Needs.{needs}
-use Rattle.tell.proofs.TellLaws.{tell-nothing, give-told, there-inquiry, there-capacity10, there-capacity16, there-keys, there-reservation}
+use Rattle.tell.proofs.TellLaws.{tell-nothing, give-told, told-inquiry, told-capacity10, told-capacity16, told-keys, told-reservation}
 use Rattle.tell.proofs.tell.Statement.{statement}
 use Rattle.tell.proofs.tell.Tie as tie
 
@@ -81,37 +81,37 @@ give-requires-5 : tie.Need-give-requires-5
 give-requires-5 c κs = search needs
 
 returns : tie.Need-returns
-returns c = tell-nothing _ _ _ _ _ (c .enum-told .given .1)
+returns c = tell-nothing _ _ _ _ (c .enum-told .given .1)
 
 same-length : tie.Need-same-length
 same-length c = search needs
 
 returns-2 : tie.Need-returns-2
-returns-2 c = give-told _ _ _ _ _ _ _ ((c .before .before .before .before .before .inquiry .ensures) ∙ there-inquiry _ _ (c .before .before .before .before .before .before .enum-told2 .given .1)) (c .before .before .give .ensures)
+returns-2 c = give-told _ _ _ _ _ _ (told-inquiry _ _ _ _ (c .before .before .before .before .before .inquiry .ensures) (c .before .before .before .before .before .before .enum-told2 .given .1)) (c .before .before .give .ensures)
 
 same-length-2 : tie.Need-same-length-2
 same-length-2 c = search needs
 
 returns-3 : tie.Need-returns-3
-returns-3 c = give-told _ _ _ _ _ _ _ ((c .before .before .before .before .before .capacity10 .ensures) ∙ there-capacity10 _ _ (c .before .before .before .before .before .before .enum-told3 .given .1)) (c .before .before .give2 .ensures)
+returns-3 c = give-told _ _ _ _ _ _ (told-capacity10 _ _ _ _ (c .before .before .before .before .before .capacity10 .ensures) (c .before .before .before .before .before .before .enum-told3 .given .1)) (c .before .before .give2 .ensures)
 
 same-length-3 : tie.Need-same-length-3
 same-length-3 c = search needs
 
 returns-4 : tie.Need-returns-4
-returns-4 c = give-told _ _ _ _ _ _ _ ((c .before .before .before .before .before .capacity16 .ensures) ∙ there-capacity16 _ _ (c .before .before .before .before .before .before .enum-told4 .given .1)) (c .before .before .give3 .ensures)
+returns-4 c = give-told _ _ _ _ _ _ (told-capacity16 _ _ _ _ (c .before .before .before .before .before .capacity16 .ensures) (c .before .before .before .before .before .before .enum-told4 .given .1)) (c .before .before .give3 .ensures)
 
 same-length-4 : tie.Need-same-length-4
 same-length-4 c = search needs
 
 returns-5 : tie.Need-returns-5
-returns-5 c = give-told _ _ _ _ _ _ _ ((c .before .before .before .before .before .before .keys-data .ensures .bytes) ∙ there-keys _ _ (c .before .before .before .before .before .before .before .before .enum-told5 .given .1)) (c .before .before .give4 .ensures)
+returns-5 c = give-told _ _ _ _ _ _ (told-keys _ _ _ _ (c .before .before .before .before .before .before .keys-data .ensures .bytes) (c .before .before .before .before .before .before .before .before .enum-told5 .given .1)) (c .before .before .give4 .ensures)
 
 same-length-5 : tie.Need-same-length-5
 same-length-5 c = search needs
 
 returns-6 : tie.Need-returns-6
-returns-6 c = give-told _ _ _ _ _ _ _ ((c .before .before .before .before .before .before .reservation-data .ensures .bytes) ∙ there-reservation _ _ (c .before .before .before .before .before .before .before .before .enum-told6 .given .1)) (c .before .before .give5 .ensures)
+returns-6 c = give-told _ _ _ _ _ _ (told-reservation _ _ _ _ (c .before .before .before .before .before .before .reservation-data .ensures .bytes) (c .before .before .before .before .before .before .before .before .enum-told6 .given .1)) (c .before .before .give5 .ensures)
 
 pub tell-spec : {M : Type 1} → statement M
 tell-spec =

@@ -1,16 +1,9 @@
 -- `blocks::transfer::write` meets its contract. Assumes nothing.
 use mathlib.Core.Path.{sym, _∙_}
-use native.Mathlib.Omega.{arith}
 use borrow.Author.Needs.{needs}
 use Rattle.blocks.proofs.BlockLaws.{range-in, write-range, write-short, write-done, write-full}
 use Rattle.blocks.proofs.transfer.write.Statement.{statement}
 use Rattle.blocks.proofs.transfer.write.Tie as tie
-
-address-requires : tie.Need-address-requires
-address-requires c κs = search needs
-
-size-requires : tie.Need-size-requires
-size-requires c κs = search needs
 
 past-end-requires : tie.Need-past-end-requires
 past-end-requires c κs = tt
@@ -19,17 +12,17 @@ out-of-range-requires : tie.Need-out-of-range-requires
 out-of-range-requires c κs = tt
 
 returns : tie.Need-returns
-returns c = write-range _ _ _ _ _ (c .before .before .before .before .address .ensures) (c .before .before .before .size .ensures .0) _ _ _ (c .out-of-range .ensures) (sym (c .before .before .past-end .ensures) ∙ (c .before .if1 .taken))
+returns c = write-range _ _ _ _ _ _ (c .out-of-range .ensures) (sym (c .before .before .past-end .ensures) ∙ (c .before .if1 .taken))
 
 mul-if2 : tie.Need-mul-if2
 mul-if2 c = search needs
 
 returns-2 : tie.Need-returns-2
-returns-2 c = write-short _ _ _ _ _ (c .before .before .before .before .address .ensures) (c .before .before .before .size .ensures .0) _ _ (sym (c .before .before .past-end .ensures) ∙ (c .before .if1 .left)) (c .if2 .taken)
+returns-2 c = write-short _ _ _ _ _ (sym (c .before .before .past-end .ensures) ∙ (c .before .if1 .left)) (c .if2 .taken)
 
 write-blocks-requires : tie.Need-write-blocks-requires
 write-blocks-requires c κs =
-    (omega (arith, (c .before .before .before .before .before .before .before .before .before .before .before .pre .2), (c .before .before .before .before .before .size .ensures .0)), range-in (c .before .before .before .before .before .before .before .before .before .before .before .args .capacity) (c .before .before .before .before .before .before .address .result .0) (c .before .before .before .before .before .size .result) (sym (c .before .before .before .before .past-end .ensures) ∙ (c .before .before .before .if1 .left)) (c .before .before .before .before .before .before .before .before .before .before .before .pre .1 .few), (c .before .before .before .before .before .before .before .before .before .before .before .pre .1 .slots), (c .before .before .before .before .before .before .before .before .before .before .before .pre .1 .whole), (c .before .before .if2 .left))
+    ((c .before .before .before .before .before .before .before .before .pre .1), range-in (c .before .before .before .before .before .before .before .before .args .capacity) (c .before .before .before .before .before .before .before .before .args .lba .0) (c .before .before .before .before .before .before .before .before .args .count) (sym (c .before .before .before .before .past-end .ensures) ∙ (c .before .before .before .if1 .left)) (c .before .before .before .before .before .before .before .before .pre .0 .few), (c .before .before .before .before .before .before .before .before .pre .0 .slots), (c .before .before .before .before .before .before .before .before .pre .0 .whole), (c .before .before .if2 .left))
 
 no-room-requires : tie.Need-no-room-requires
 no-room-requires c κs = tt
@@ -41,7 +34,7 @@ same-length-2 : tie.Need-same-length-2
 same-length-2 c = search needs
 
 returns-3 : tie.Need-returns-3
-returns-3 c = write-done _ _ _ _ _ (c .before .before .before .before .before .before .before .before .before .before .before .before .address .ensures) (c .before .before .before .before .before .before .before .before .before .before .before .size .ensures .0) _ _ _ _ _ (c .before .before .before .before .before .write-blocks .ensures) (sym (c .before .before .before .before .before .before .before .before .before .before .past-end .ensures) ∙ (c .before .before .before .before .before .before .before .before .before .if1 .left)) (c .before .before .before .before .before .before .before .before .if2 .left) (c .if3 .taken)
+returns-3 c = write-done _ _ _ _ _ (sym (c .before .before .before .before .before .before .before .before .before .before .past-end .ensures) ∙ (c .before .before .before .before .before .before .before .before .before .if1 .left)) (c .before .before .before .before .before .before .before .before .if2 .left) _ _ _ (c .before .before .before .before .before .write-blocks .ensures) (c .if3 .taken)
 
 same-length-3 : tie.Need-same-length-3
 same-length-3 c = search needs
@@ -50,14 +43,12 @@ same-length-4 : tie.Need-same-length-4
 same-length-4 c = search needs
 
 returns-4 : tie.Need-returns-4
-returns-4 c = write-full _ _ _ _ _ (c .before .before .before .before .before .before .before .before .before .before .before .before .before .address .ensures) (c .before .before .before .before .before .before .before .before .before .before .before .before .size .ensures .0) _ _ _ _ _ (c .before .before .before .before .before .before .write-blocks .ensures) _ (c .no-room .ensures) (sym (c .before .before .before .before .before .before .before .before .before .before .before .past-end .ensures) ∙ (c .before .before .before .before .before .before .before .before .before .before .if1 .left)) (c .before .before .before .before .before .before .before .before .before .if2 .left) (c .before .if3 .left)
+returns-4 c = write-full _ _ _ _ _ (sym (c .before .before .before .before .before .before .before .before .before .before .before .past-end .ensures) ∙ (c .before .before .before .before .before .before .before .before .before .before .if1 .left)) (c .before .before .before .before .before .before .before .before .before .if2 .left) _ _ _ (c .before .before .before .before .before .before .write-blocks .ensures) _ (c .no-room .ensures) (c .before .if3 .left)
 
 pub write-spec : {M : Type 1} → statement M
 write-spec =
     tie.close
     (tie.spec
-    address-requires
-    size-requires
     past-end-requires
     out-of-range-requires
     returns

@@ -5,9 +5,6 @@ use Rattle.blocks.proofs.BlockLaws.{unmap-broken, unmap-short, unmap-ma
 use Rattle.blocks.proofs.unmap.unmap.Statement.{statement}
 use Rattle.blocks.proofs.unmap.unmap.Tie as tie
 
-size-requires : tie.Need-size-requires
-size-requires c κs = search needs
-
 broken-off-requires : tie.Need-broken-off-requires
 broken-off-requires c κs = tt
 
@@ -15,10 +12,10 @@ list-length-requires : tie.Need-list-length-requires
 list-length-requires c κs = tt
 
 returns : tie.Need-returns
-returns c = unmap-broken _ _ _ _ _ _ (c .before .before .before .size .ensures .0) _ (c .list-length .ensures) (sym (c .before .before .broken-off .ensures) ∙ (c .before .if1 .taken))
+returns c = unmap-broken _ _ _ _ _ (c .list-length .ensures) (sym (c .before .before .broken-off .ensures) ∙ (c .before .if1 .taken))
 
 returns-2 : tie.Need-returns-2
-returns-2 c = unmap-short _ _ _ _ _ _ (c .before .before .before .size .ensures .0) (sym (c .before .before .broken-off .ensures) ∙ (c .before .if1 .left)) (c .if2 .taken)
+returns-2 c = unmap-short _ _ _ _ (sym (c .before .before .broken-off .ensures) ∙ (c .before .if1 .left)) (c .if2 .taken)
 
 considered-requires : tie.Need-considered-requires
 considered-requires c κs = tt
@@ -27,7 +24,7 @@ list-field-requires : tie.Need-list-field-requires
 list-field-requires c κs = tt
 
 returns-3 : tie.Need-returns-3
-returns-3 c = unmap-many _ _ _ _ _ _ (c .before .before .before .before .before .before .size .ensures .0) (sym (c .before .before .before .before .before .broken-off .ensures) ∙ (c .before .before .before .before .if1 .left)) (c .before .before .before .if2 .left) _ (c .before .before .considered .ensures) _ (c .list-field .ensures) (c .before .if3 .taken)
+returns-3 c = unmap-many _ _ _ _ (sym (c .before .before .before .before .before .broken-off .ensures) ∙ (c .before .before .before .before .if1 .left)) (c .before .before .before .if2 .left) _ (c .before .before .considered .ensures) _ (c .list-field .ensures) (c .before .if3 .taken)
 
 some-fails-requires : tie.Need-some-fails-requires
 some-fails-requires c κs = search needs
@@ -36,22 +33,21 @@ out-of-range-requires : tie.Need-out-of-range-requires
 out-of-range-requires c κs = tt
 
 returns-4 : tie.Need-returns-4
-returns-4 c = unmap-range _ _ _ _ _ _ (c .before .before .before .before .before .before .before .before .size .ensures .0) (sym (c .before .before .before .before .before .before .before .broken-off .ensures) ∙ (c .before .before .before .before .before .before .if1 .left)) (c .before .before .before .before .before .if2 .left) _ (c .before .before .before .before .considered .ensures) (c .before .before .before .if3 .left) _ (c .out-of-range .ensures) (sym (c .before .before .some-fails .ensures) ∙ (c .before .if4 .taken))
+returns-4 c = unmap-range _ _ _ _ (sym (c .before .before .before .before .before .before .before .broken-off .ensures) ∙ (c .before .before .before .before .before .before .if1 .left)) (c .before .before .before .before .before .if2 .left) _ (c .before .before .before .before .considered .ensures) (c .before .before .before .if3 .left) _ (c .out-of-range .ensures) (sym (c .before .before .some-fails .ensures) ∙ (c .before .if4 .taken))
 
 unmap-all-requires : tie.Need-unmap-all-requires
-unmap-all-requires c κs = ((c .before .before .before .if3 .left), ((c .before .before .before .before .before .before .before .before .before .before .before .before .pre .1), sym (c .before .before .some-fails .ensures) ∙ (c .before .if4 .left)))
+unmap-all-requires c κs = ((c .before .before .before .if3 .left), ((c .before .before .before .before .before .before .before .before .before .before .pre), sym (c .before .before .some-fails .ensures) ∙ (c .before .if4 .left)))
 
 same-length : tie.Need-same-length
 same-length c = search needs
 
 returns-5 : tie.Need-returns-5
-returns-5 c = unmap-done _ _ _ _ _ _ (c .before .before .before .before .before .before .before .before .before .before .before .size .ensures .0) (sym (c .before .before .before .before .before .before .before .before .before .before .broken-off .ensures) ∙ (c .before .before .before .before .before .before .before .before .before .if1 .left)) (c .before .before .before .before .before .before .before .before .if2 .left) _ (c .before .before .before .before .before .before .before .considered .ensures) (c .before .before .before .before .before .before .if3 .left) _ (sym (c .before .before .before .before .before .some-fails .ensures) ∙ (c .before .before .before .before .if4 .left)) (c .before .before .unmap-all .ensures)
+returns-5 c = unmap-done _ _ _ _ (sym (c .before .before .before .before .before .before .before .before .before .before .broken-off .ensures) ∙ (c .before .before .before .before .before .before .before .before .before .if1 .left)) (c .before .before .before .before .before .before .before .before .if2 .left) _ (c .before .before .before .before .before .before .before .considered .ensures) (c .before .before .before .before .before .before .if3 .left) _ (sym (c .before .before .before .before .before .some-fails .ensures) ∙ (c .before .before .before .before .if4 .left)) (c .before .before .unmap-all .ensures)
 
 pub unmap-spec : {M : Type 1} → statement M
 unmap-spec =
     tie.close
     (tie.spec
-    size-requires
     broken-off-requires
     list-length-requires
     returns

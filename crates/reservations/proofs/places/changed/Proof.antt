@@ -19,6 +19,9 @@ returns : tie.Need-returns
 unfolding rekeyed wants
 returns c = simp (c .before .before .before .change .given .1, sym (c .before .wanted .ensures) ∙ not-true _ (c .if1 .taken))
 
+with-key-requires : tie.Need-with-key-requires
+with-key-requires c κs = search needs
+
 enum-known-change-2 : tie.Need-enum-known-change-2
 enum-known-change-2 c = search needs
 
@@ -38,7 +41,7 @@ returns-3 c = simp (c .before .before .before .before .change .given .1, sym (c 
 
 returns-4 : tie.Need-returns-4
 unfolding rekeyed wants
-returns-4 c = simp (c .before .before .before .before .change .given .1, sym (c .before .before .wanted .ensures) ∙ not-false _ (c .before .if1 .left), ne-eqb _ _ (c .if2 .left))
+returns-4 c = simp (c .before .before .before .before .before .change .given .1, c .with-key .ensures, sym (c .before .before .before .wanted .ensures) ∙ not-false _ (c .before .before .if1 .left), ne-eqb _ _ (c .before .if2 .left))
 
 returns-5 : tie.Need-returns-5
 unfolding without spares
@@ -66,6 +69,7 @@ changed-spec =
     enum-known-change
     wanted-requires
     returns
+    with-key-requires
     enum-known-change-2
     enum-known-change-3
     returns-2

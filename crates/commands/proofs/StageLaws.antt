@@ -1,0 +1,181 @@
+-- The stages of tests before a command's own, as the code goes through them, and what they let pass.
+-- Assumes nothing.
+use mathlib.Core.Path.{_≡_, refl, sym, ap, _∙_, subst}
+use mathlib.Core.Bool.{Bool, true, false, not, _||_, true≢false}
+use mathlib.Core.List.{List, [], _∷_, _++_}
+use Prim.Native.Nat.{ℕ, zero, suc, _≤_}
+use native.Mathlib.Omega.{arith}
+use borrow.Author.Tests.{eq-eqb, ne-eqb}
+use lib.Dec.{T, eqb}
+use lib.ListN.{length}
+use Rattle.answers.specs.declared.Answer.{Answer}
+use Rattle.answers.specs.declared.Answer.the-variants.{Good, Conflict, Unusable}
+use Rattle.answers.specs.Answers.{notListed, invalidField}
+use Rattle.answers.specs.Order.{Row, _if_, first, next, refuses, refusing, firstOf, refusingBy}
+use Rattle.answers.proofs.OrderLaws.{row-pass, row-stop, row-end, first-append, refusing-append, next-end, next-after, next-refuses, next-first, next-second}
+use Rattle.rights.specs.declared.Rights.{Rights}
+use Rattle.forms.specs.declared.Service.{Service}
+use Rattle.forms.specs.declared.Service.the-variants.{Served, Other}
+use Rattle.forms.specs.declared.Code.{Code}
+use Rattle.forms.specs.declared.Entry.{Entry}
+use Rattle.forms.specs.declared.Entry.the-variants.{Listed, Unlisted}
+use Rattle.forms.specs.declared.Request.{Request}
+use Rattle.forms.specs.Forms.{entryOf, Asked, nothing, asks, askedBy, askedIn}
+use Rattle.forms.specs.Tests.{isUnlisted, codeRows, lengthRows, serviceRows, codeFieldRows, fieldRows}
+use Rattle.forms.proofs.Table.{longRule, long-rule}
+use Rattle.forms.proofs.Refusing.{code-refusing, length-refusing, field-refusing}
+use Rattle.decoder.specs.declared.Decoded.{Decoded}
+use Rattle.decoder.specs.declared.Decoded.the-variants.{Asks, Wrong}
+use Rattle.decoder.specs.Decoding.{decoded}
+use Rattle.decoder.proofs.DecodingLaws.{decoded-wrong, decoded-asks, asks-good, asks-this, wrong-this, wrong-refuses}
+use Rattle.store.specs.Step.{guarded, guardRows, stageRows}
+use Rattle.store.proofs.Parts.{guard-refusing}
+use Rattle.commands.specs.Served.{askedAt}
+
+-- a listed code's CDBs have at least one byte
+long-some : (n : ℕ) → T (eqb n 6 || (eqb n 10 || eqb n 16)) → 1 ≤ n
+long-some zero t = absurd t
+long-some (suc n) t = omega arith
+
+long-in : (e : Entry) (code : Code) → T (longRule e) → e ≡ Listed code → 1 ≤ code .long
+unfolding longRule
+long-in e code t h = long-some (code .long) (subst (λ (x : Entry). T (longRule x)) h t)
+
+pub long-least : (cdb : List ℕ) (code : Code) → entryOf cdb ≡ Listed code → 1 ≤ code .long
+long-least cdb code h = long-in (entryOf cdb) code (long-rule cdb) h
+
+-- every row of the stages refuses
+pub stage-refusing : (e : Entry) (r : Rights) (n : ℕ) (cdb : List ℕ) → T (refusing (stageRows e r n cdb))
+unfolding stageRows
+stage-refusing e r n cdb =
+    refusing-append (codeRows e) _ (code-refusing e)
+    (refusing-append (lengthRows e cdb) _ (length-refusing e cdb)
+    (refusing-append (fieldRows e cdb) _ (field-refusing e cdb) (guard-refusing (askedIn e cdb) r n)))
+
+-- ---- a code that is listed, with a CDB of its length
+
+module _ (code : Code) (r : Rights) (n : ℕ) (cdb : List ℕ) where
+  by-length : (b : Bool) → not (eqb (length cdb) (code .long)) ≡ b
+      → first (stageRows (Listed code) r n cdb)
+      ≡ first (Unusable if b ∷ (codeFieldRows code cdb ++ guardRows (askedBy (code .service) cdb) r n))
+  unfolding stageRows codeRows lengthRows fieldRows isUnlisted askedIn
+  by-length b e = row-pass notListed _ _ refl ∙ rw e
+
+  at-length : length cdb ≡ code .long
+      → first (stageRows (Listed code) r n cdb) ≡ next (first (codeFieldRows code cdb)) (first (guardRows (askedBy (code .service) cdb) r n))
+  unfolding fieldRows
+  at-length e =
+      by-length false (rw (eq-eqb _ _ e)) ∙ row-pass Unusable _ _ refl
+      ∙ first-append (codeFieldRows code cdb) _ (field-refusing (Listed code) cdb)
+
+-- ---- what the code answers on its way
+
+module _ (r : Rights) (n : ℕ) (cdb : List ℕ) where
+  pub asked-unlisted : (e : Entry) → e ≡ Unlisted → Wrong notListed ≡ askedAt e r n cdb
+  unfolding askedAt stageRows codeRows isUnlisted refuses
+  asked-unlisted e h = rw h (decoded-wrong _ notListed _ (row-stop notListed _ _ refl) tt)
+
+  module _ (e : Entry) (code : Code) (h : e ≡ Listed code) where
+    pub asked-length : (length cdb ≡ code .long → ⊥) → Wrong Unusable ≡ askedAt e r n cdb
+    unfolding askedAt refuses
+    asked-length k =
+        rw h
+        (decoded-wrong _ Unusable _ (by-length code r n cdb true (rw (ne-eqb _ _ k)) ∙ row-stop Unusable _ _ refl) tt)
+
+    module _ (k : length cdb ≡ code .long) (d : Decoded) (g : d ≡ decoded (first (codeFieldRows code cdb)) (askedBy (code .service) cdb)) where
+      wrong-at : (x : Asked) (v a : Answer) → decoded v x ≡ Wrong a → Wrong a ≡ decoded (next v (first (guardRows x r n))) x
+      unfolding guardRows
+      wrong-at nothing v a w = sym w ∙ ap (λ (b : Answer). decoded b nothing) (sym (ap (next v) row-end ∙ next-end v))
+      wrong-at (asks q) v a w =
+          sym w
+          ∙ ap (λ (b : Answer). decoded b (asks q))
+          (sym (next-refuses v _ (wrong-refuses v a (asks q) w (λ z. absurd (asks-nothing q z)))))
+        where
+          isNothing : Asked → Bool
+          isNothing nothing = true
+          isNothing (asks q) = false
+
+          asks-nothing : (q : Request) → asks q ≡ nothing → ⊥
+          asks-nothing q z = true≢false (sym (ap isNothing z))
+
+      pub asked-wrong : (a : Answer) → d ≡ Wrong a → Wrong a ≡ askedAt e r n cdb
+      unfolding askedAt askedIn
+      asked-wrong a w =
+          rw h
+          (wrong-at (askedBy (code .service) cdb) (first (codeFieldRows code cdb)) a (sym g ∙ w)
+          ∙ ap (λ (b : Answer). decoded b (askedBy (code .service) cdb)) (sym (at-length code r n cdb k)))
+
+      module _ (q : Request) (w : d ≡ Asks q) where
+        -- the guard alone is left
+        guard-left : first (stageRows (Listed code) r n cdb) ≡ first (guardRows (asks q) r n)
+        guard-left =
+            at-length code r n cdb k
+            ∙ next-after _ _ (asks-good _ (askedBy (code .service) cdb) q (sym g ∙ w))
+            ∙ ap (λ (x : Asked). first (guardRows x r n)) (asks-this _ (askedBy (code .service) cdb) q (sym g ∙ w))
+
+        pub asked-guarded : guarded (q .command) r n ≡ true → Wrong Conflict ≡ askedAt e r n cdb
+        unfolding askedAt guardRows refuses
+        asked-guarded t = rw h (decoded-wrong _ Conflict _ (guard-left ∙ row-stop Conflict _ _ t) tt)
+
+        pub asked-passes : guarded (q .command) r n ≡ false → Asks q ≡ askedAt e r n cdb
+        unfolding askedAt guardRows askedIn
+        asked-passes t =
+            rw h
+            (decoded-asks _ q (guard-left ∙ row-pass Conflict _ _ t ∙ row-end)
+            ∙ ap (decoded (first (stageRows (Listed code) r n cdb))) (sym (asks-this _ (askedBy (code .service) cdb) q (sym g ∙ w))))
+
+-- where the stages let pass, the fields are right
+pub stage-fields : (e : Entry) (r : Rights) (n : ℕ) (cdb : List ℕ) → first (stageRows e r n cdb) ≡ Good → first (fieldRows e cdb) ≡ Good
+unfolding stageRows
+stage-fields e r n cdb g =
+    next-first (first (fieldRows e cdb)) _
+    (sym (first-append (fieldRows e cdb) _ (field-refusing e cdb))
+    ∙ next-second (first (lengthRows e cdb)) _
+    (sym (first-append (lengthRows e cdb) _ (length-refusing e cdb))
+    ∙ next-second (first (codeRows e)) _ (sym (first-append (codeRows e) _ (code-refusing e)) ∙ g)))
+
+-- ---- what is not served is refused
+
+other-refused : (b k : Bool) → T (refuses (first (notListed if false ∷ Unusable if b ∷ invalidField if k ∷ invalidField if true ∷ [])))
+unfolding firstOf refuses
+other-refused true k = tt
+other-refused false true = tt
+other-refused false false = tt
+
+service-refused : (long : ℕ) (v : Service) (r : Rights) (n : ℕ) (cdb : List ℕ) → askedBy v cdb ≡ nothing
+    → T (refuses (first (stageRows (Listed (record { long = long; service = v })) r n cdb)))
+unfolding stageRows codeRows lengthRows fieldRows codeFieldRows serviceRows guardRows isUnlisted askedIn askedBy
+service-refused long (Served f) r n cdb e = absurd (true≢false (sym (ap isNothing e)))
+  where
+    isNothing : Asked → Bool
+    isNothing nothing = true
+    isNothing (asks q) = false
+service-refused long Other r n cdb e = other-refused _ _
+
+unlisted-refused : (r : Rights) (n : ℕ) (cdb : List ℕ) → T (refuses (first (stageRows Unlisted r n cdb)))
+unfolding stageRows codeRows isUnlisted firstOf refuses
+unlisted-refused r n cdb = tt
+
+nothing-refused : (e : Entry) (r : Rights) (n : ℕ) (cdb : List ℕ) → askedIn e cdb ≡ nothing → T (refuses (first (stageRows e r n cdb)))
+unfolding askedIn
+nothing-refused (Listed code) r n cdb e = service-refused (code .long) (code .service) r n cdb e
+nothing-refused Unlisted r n cdb e = unlisted-refused r n cdb
+
+-- ---- what the stages say, read off what they let pass
+
+module _ (e : Entry) (r : Rights) (n : ℕ) (cdb : List ℕ) where
+  pub wrong-answer : (a : Answer) → askedAt e r n cdb ≡ Wrong a → first (stageRows e r n cdb) ≡ a
+  unfolding askedAt
+  wrong-answer a w = wrong-this _ a (askedIn e cdb) w
+
+  pub wrong-refused : (a : Answer) → askedAt e r n cdb ≡ Wrong a → T (refuses (first (stageRows e r n cdb)))
+  unfolding askedAt
+  wrong-refused a w = wrong-refuses _ a (askedIn e cdb) w (nothing-refused e r n cdb)
+
+  pub asks-answer : (q : Request) → askedAt e r n cdb ≡ Asks q → first (stageRows e r n cdb) ≡ Good
+  unfolding askedAt
+  asks-answer q w = asks-good _ (askedIn e cdb) q w
+
+  pub asks-request : (q : Request) → askedAt e r n cdb ≡ Asks q → askedIn e cdb ≡ asks q
+  unfolding askedAt
+  asks-request q w = asks-this _ (askedIn e cdb) q w

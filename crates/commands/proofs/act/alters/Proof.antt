@@ -1,0 +1,20 @@
+-- `commands::act::alters` meets its contract. Assumes nothing.
+use borrow.Author.Needs.{needs}
+use Rattle.commands.proofs.act.alters.Statement.{statement}
+use Rattle.commands.proofs.act.alters.Tie as tie
+use Rattle.commands.proofs.act.alters.Reads as reads
+
+alter-requires : tie.Need-alter-requires
+alter-requires c κs = search needs
+
+with-rights-requires : tie.Need-with-rights-requires
+with-rights-requires c κs = search needs
+
+answered-requires : tie.Need-answered-requires
+answered-requires c κs = search needs
+
+returns : tie.Need-returns
+returns c = rw ((c .before .with-rights .ensures), (c .before .before .before .alter .ensures)) at (c .answered .ensures)
+
+pub alters-spec : {M : Type 1} → statement M
+alters-spec = tie.close (tie.spec alter-requires with-rights-requires answered-requires returns)

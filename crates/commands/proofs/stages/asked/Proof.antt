@@ -1,0 +1,64 @@
+-- `commands::stages::asked` meets its contract. Assumes nothing.
+use mathlib.Core.Path.{sym, _∙_}
+use Rattle.commands.proofs.StageLaws.{long-least, asked-unlisted, asked-length, asked-wrong, asked-guarded, asked-passes}
+use borrow.Author.Needs.{needs}
+use Rattle.commands.proofs.stages.asked.Statement.{statement}
+use Rattle.commands.proofs.stages.asked.Tie as tie
+use Rattle.commands.proofs.stages.asked.Reads as reads
+
+entry-of-requires : tie.Need-entry-of-requires
+entry-of-requires c κs = search needs
+
+enum-known-entry : tie.Need-enum-known-entry
+enum-known-entry c = search needs
+
+enum-told : tie.Need-enum-told
+enum-told c = search needs
+
+not-listed-requires : tie.Need-not-listed-requires
+not-listed-requires c κs = search needs
+
+returns : tie.Need-returns
+returns c = rw (c .not-listed .ensures) (asked-unlisted _ _ _ _ (sym (c .before .before .before .entry-of .ensures) ∙ (c .before .enum-told .given .1)))
+
+returns-2 : tie.Need-returns-2
+returns-2 c = asked-length _ _ _ _ _ (sym (c .before .before .before .before .before .entry-of .ensures) ∙ (c .before .before .before .entry .given .1)) (c .if1 .taken)
+
+request-requires : tie.Need-request-requires
+request-requires c κs = long-least _ _ (sym (c .before .before .before .before .before .entry-of .ensures) ∙ (c .before .before .before .entry .given .1))
+
+enum-known-decoded : tie.Need-enum-known-decoded
+enum-known-decoded c = search needs
+
+enum-known-decoded-2 : tie.Need-enum-known-decoded-2
+enum-known-decoded-2 c = search needs
+
+is-guarded-requires : tie.Need-is-guarded-requires
+is-guarded-requires c κs = search needs
+
+returns-3 : tie.Need-returns-3
+returns-3 c = asked-guarded _ _ _ _ _ (sym (c .before .before .before .before .before .before .before .before .before .before .before .entry-of .ensures) ∙ (c .before .before .before .before .before .before .before .before .before .entry .given .1)) (c .before .before .before .before .before .before .if1 .left) _ (c .before .before .before .before .before .request .ensures) _ (c .before .before .before .decoded2 .given .1) (sym (c .before .is-guarded .ensures) ∙ (c .if2 .taken))
+
+returns-4 : tie.Need-returns-4
+returns-4 c = asked-wrong _ _ _ _ _ (sym (c .before .before .before .before .before .before .before .before .before .entry-of .ensures) ∙ (c .before .before .before .before .before .before .before .entry .given .1)) (c .before .before .before .before .if1 .left) _ (c .before .before .before .request .ensures) _ (c .before .decoded .given .1)
+
+returns-5 : tie.Need-returns-5
+returns-5 c = asked-passes _ _ _ _ _ (sym (c .before .before .before .before .before .before .before .before .before .before .before .entry-of .ensures) ∙ (c .before .before .before .before .before .before .before .before .before .entry .given .1)) (c .before .before .before .before .before .before .if1 .left) _ (c .before .before .before .before .before .request .ensures) _ (c .before .before .before .decoded2 .given .1) (sym (c .before .is-guarded .ensures) ∙ (c .if2 .left))
+
+pub asked-spec : {M : Type 1} → statement M
+asked-spec =
+    tie.close
+    (tie.spec
+    entry-of-requires
+    enum-known-entry
+    enum-told
+    not-listed-requires
+    returns
+    returns-2
+    request-requires
+    enum-known-decoded
+    enum-known-decoded-2
+    is-guarded-requires
+    returns-3
+    returns-4
+    returns-5)

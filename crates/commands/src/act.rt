@@ -1,0 +1,102 @@
+// The command that a call asks for, once nothing is left to be tested but what is its own.
+ghost use mathlib.Core.Path.{_≡_};
+ghost use mathlib.Core.List.{[]};
+ghost use Rattle.forms.proofs.Fields.{Fits};
+ghost use Rattle.store.specs.Store.{withRights};
+ghost use Rattle.reply.specs.Contract.{storeOf, callOf};
+ghost use Rattle.reply.specs.Reply.{Bounded, served};
+ghost use Rattle.alter.specs.Altered.{altered};
+ghost use Rattle.commands.specs.Served.{servedBy, altersTo, bare, replying};
+use answers::Answer;
+use blocks::transfer;
+use blocks::unmap;
+use forms::Command;
+use forms::Move;
+use forms::Request;
+use reply::Outcome;
+use reply::Reply;
+use rights::Action;
+use rights::Rights;
+use store::Unit;
+
+// An answer that returns no bytes.
+pub fn answered(answer: Answer, unit: Unit) -> Outcome
+    ensures { λ r. ⌜ r ≡ bare answer unit ⌝ }
+{
+    Outcome {
+        answer,
+        returned: 0,
+        unit,
+    }
+}
+
+// A reply leaves the unit.
+fn replied(reply: Reply, unit: Unit) -> Outcome
+    ensures { λ r. ⌜ r ≡ replying reply unit ⌝ }
+{
+    let answer = reply.answer;
+    Outcome {
+        answer,
+        returned: reply.returned,
+        unit,
+    }
+}
+
+// The unit with other rights.
+fn with_rights(unit: Unit, rights: Rights) -> Unit
+    ensures { λ r. ⌜ r ≡ withRights unit rights ⌝ }
+{
+    Unit {
+        capacity: unit.capacity,
+        rights,
+    }
+}
+
+// A command on the rights changes no block.
+fn alters(action: Action, request: Request, unit: Unit, nexus: u64, data_out: &[u8]) -> Outcome
+    ensures { λ r. ⌜ r ≡ altersTo unit (altered action request (unit .rights) nexus (now («data_out» .entry))) ⌝ }
+{
+    let decision = alter::alter(action, request, unit.rights, nexus, data_out);
+    let answer = decision.answer;
+    let rights = decision.rights;
+    answered(answer, with_rights(unit, rights))
+}
+
+pub fn act(
+    request: Request,
+    unit: Unit,
+    owners: &mut [u64],
+    medium: &mut [u8],
+    nexus: u64,
+    data_out: &[u8],
+    data_in: &mut [u8],
+) -> Outcome
+    requires { ⌜ Bounded (unit .capacity) (now owners) (now medium) × Fits request ⌝ }
+    ensures { λ r. ⌜ served r (now (owners .exit)) (now (medium .exit)) (now («data_in» .exit))
+        ≡ servedBy (request .command) request
+        (storeOf unit (now (owners .entry)) (now (medium .entry)))
+        (callOf nexus [] (now («data_out» .entry)) (now («data_in» .entry)) []) ⌝ }
+{
+    let command = request.command;
+    let capacity = unit.capacity;
+    let lba = request.address;
+    let size = request.size;
+    match command {
+        Command::Tells(what) => replied(tell::tell(what, size, unit, data_in), unit),
+        Command::Alters(action) => alters(action, request, unit, nexus, data_out),
+        Command::Moves(what) => match what {
+            Move::Read => {
+                let reply = transfer::read(capacity, owners, medium, lba, size, data_in);
+                replied(reply, unit)
+            }
+            Move::Write => {
+                let answer = transfer::write(capacity, owners, medium, lba, size, data_out);
+                answered(answer, unit)
+            }
+            Move::Unmap => {
+                let answer = unmap::unmap(capacity, owners, size, data_out);
+                answered(answer, unit)
+            }
+        },
+    }
+}

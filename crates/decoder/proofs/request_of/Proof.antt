@@ -1,0 +1,26 @@
+-- `decoder::request_of` meets its contract. Assumes nothing.
+use Rattle.forms.specs.Forms.{requestBy}
+use borrow.Author.Needs.{needs}
+use Rattle.decoder.proofs.request_of.Statement.{statement}
+use Rattle.decoder.proofs.request_of.Tie as tie
+use Rattle.decoder.proofs.request_of.Reads as reads
+
+number-at-requires : tie.Need-number-at-requires
+number-at-requires c κs = search needs
+
+number-at-requires-2 : tie.Need-number-at-requires-2
+number-at-requires-2 c κs = search needs
+
+byte-requires : tie.Need-byte-requires
+byte-requires c κs = search needs
+
+cast-kind : tie.Need-cast-kind
+cast-kind c = search needs
+
+returns : tie.Need-returns
+unfolding requestBy
+returns c = simp (c .byte .ensures, c .before .number-at2 .ensures, c .before .before .number-at .ensures)
+
+pub request-of-spec : {M : Type 1} → statement M
+request-of-spec =
+    tie.close (tie.spec number-at-requires number-at-requires-2 byte-requires cast-kind returns)

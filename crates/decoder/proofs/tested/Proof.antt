@@ -1,0 +1,44 @@
+-- `decoder::tested` meets its contract. Assumes nothing.
+use mathlib.Core.Path.{sym, _∙_}
+use Rattle.decoder.proofs.DecodingLaws.{tested-first, tested-second, tested-passes}
+use borrow.Author.Needs.{needs}
+use Rattle.decoder.proofs.tested.Statement.{statement}
+use Rattle.decoder.proofs.tested.Tie as tie
+use Rattle.decoder.proofs.tested.Reads as reads
+
+request-of-requires : tie.Need-request-of-requires
+request-of-requires c κs = search needs
+
+is-wrong-requires : tie.Need-is-wrong-requires
+is-wrong-requires c κs = search needs
+
+invalid-field-requires : tie.Need-invalid-field-requires
+invalid-field-requires c κs = search needs
+
+returns : tie.Need-returns
+returns c = rw (c .invalid-field .ensures) (tested-first _ _ _ (c .before .before .before .request-of .ensures) (sym (c .before .before .is-wrong .ensures) ∙ (c .before .if1 .taken)))
+
+is-wrong-requires-2 : tie.Need-is-wrong-requires-2
+is-wrong-requires-2 c κs = search needs
+
+invalid-field-requires-2 : tie.Need-invalid-field-requires-2
+invalid-field-requires-2 c κs = search needs
+
+returns-2 : tie.Need-returns-2
+returns-2 c = rw (c .invalid-field2 .ensures) (tested-second _ _ _ (c .before .before .before .before .before .request-of .ensures) (sym (c .before .before .before .before .is-wrong .ensures) ∙ (c .before .before .before .if1 .left)) (sym (c .before .before .is-wrong2 .ensures) ∙ (c .before .if2 .taken)))
+
+returns-3 : tie.Need-returns-3
+returns-3 c = tested-passes _ _ _ (c .before .before .before .before .request-of .ensures) (sym (c .before .before .before .is-wrong .ensures) ∙ (c .before .before .if1 .left)) (sym (c .before .is-wrong2 .ensures) ∙ (c .if2 .left))
+
+pub tested-spec : {M : Type 1} → statement M
+tested-spec =
+    tie.close
+    (tie.spec
+    request-of-requires
+    is-wrong-requires
+    invalid-field-requires
+    returns
+    is-wrong-requires-2
+    invalid-field-requires-2
+    returns-2
+    returns-3)

@@ -1,0 +1,222 @@
+-- What a request says whose fields are right: at most 128 blocks where it is a READ or WRITE, one of the six types where it makes a reservation.
+-- Assumes nothing.
+use mathlib.Core.Path.{_≡_, refl, sym, ap, _∙_, subst}
+use mathlib.Core.Bool.{Bool, true, false, not, _&&_, _||_, true≢false}
+use mathlib.Core.List.{List, [], _∷_}
+use Prim.Native.Nat.{ℕ, zero, suc, _-_, _%_, _≤_}
+use native.Mathlib.Omega.{arith}
+use borrow.Author.Tests.{ltb-false}
+use lib.Dec.{T, eqb, eqb→eq, leb, ltb}
+use Rattle.fields.specs.Field.{byte, bit}
+use Rattle.fields.proofs.Tests.{and-l, and-r, or-other, not-not, not-not-intro, by-equal, false→T}
+use Rattle.answers.specs.declared.Answer.the-variants.{Good}
+use Rattle.answers.specs.Answers.{invalidField}
+use Rattle.answers.specs.Order.{_if_, first, refuses}
+use Rattle.answers.proofs.OrderLaws.{row-fails, rows-after}
+use Rattle.pool.specs.Bounds.{mostTransfer}
+use Rattle.rights.specs.Rights.{isType}
+use Rattle.rights.proofs.Keeping.{makes}
+use Rattle.forms.specs.declared.Move.the-variants.{Read, Write, Unmap}
+use Rattle.forms.specs.declared.Command.{Command}
+use Rattle.forms.specs.declared.Command.the-variants.{Tells, Moves, Alters}
+use Rattle.forms.specs.declared.Test.{Test}
+use Rattle.forms.specs.declared.Test.the-variants.{Nothing, VitalData, Page, Protection, Count, Anchor, Scope, Kind}
+use Rattle.forms.specs.declared.Form.{Form}
+use Rattle.forms.specs.declared.Service.{Service}
+use Rattle.forms.specs.declared.Service.the-variants.{Served, Other}
+use Rattle.forms.specs.declared.Entry.{Entry}
+use Rattle.forms.specs.declared.Entry.the-variants.{Listed, Unlisted}
+use Rattle.forms.specs.declared.Request.{Request}
+use Rattle.forms.specs.Forms.{lines, listed, entryFor, entryOf, action, number, requestBy, Asked, nothing, asks, askedBy, askedIn, askedOf}
+use Rattle.forms.specs.Tests.{wrong, testRows, serviceRows, codeFieldRows, fieldRows}
+use Rattle.forms.proofs.Table.{all, obeys, looked-up, serviceRule, rowRule, isNothing, longRule, long-rule}
+
+-- ---- the row by which a request is read
+
+-- the request r stands in the CDB by the row `form` of a code whose CDBs are `long` bytes
+pub record Row (e : Entry) (cdb : List ℕ) (r : Request) : Type 0 where
+  pub long : ℕ
+  pub form : Form
+  pub entry : e ≡ listed long (Served form)
+  pub request : requestBy form cdb ≡ r
+
+unfoldable requestIn : Asked → Request → Request
+requestIn nothing r = r
+requestIn (asks q) r = q
+
+service-row : (long : ℕ) (v : Service) (cdb : List ℕ) (r : Request) → askedBy v cdb ≡ asks r → Row (listed long v) cdb r
+unfolding askedBy requestIn isNothing
+service-row long (Served f) cdb r e = record { long = long; form = f; entry = refl; request = ap (λ (x : Asked). requestIn x r) e }
+service-row long Other cdb r e = absurd (true≢false (ap isNothing e))
+
+-- what is asked for has a row
+pub row-of : (e : Entry) (cdb : List ℕ) (r : Request) → askedIn e cdb ≡ asks r → Row e cdb r
+unfolding askedIn askedBy isNothing
+row-of (Listed code) cdb r e = service-row (code .long) (code .service) cdb r e
+row-of Unlisted cdb r e = absurd (true≢false (ap isNothing e))
+
+-- ---- which tests a row has
+
+-- a number for each test, so that two can be compared
+unfoldable testNumber : Test → ℕ
+testNumber Nothing = 0
+testNumber VitalData = 1
+testNumber Page = 2
+testNumber Protection = 3
+testNumber Count = 4
+testNumber Anchor = 5
+testNumber Scope = 6
+testNumber Kind = 7
+
+unfoldable testOf : ℕ → Test
+testOf zero = Nothing
+testOf (suc zero) = VitalData
+testOf (suc (suc zero)) = Page
+testOf (suc (suc (suc zero))) = Protection
+testOf (suc (suc (suc (suc zero)))) = Count
+testOf (suc (suc (suc (suc (suc zero))))) = Anchor
+testOf (suc (suc (suc (suc (suc (suc zero)))))) = Scope
+testOf (suc (suc (suc (suc (suc (suc (suc n))))))) = Kind
+
+test-back : (t : Test) → testOf (testNumber t) ≡ t
+unfolding testOf testNumber
+test-back Nothing = refl
+test-back VitalData = refl
+test-back Page = refl
+test-back Protection = refl
+test-back Count = refl
+test-back Anchor = refl
+test-back Scope = refl
+test-back Kind = refl
+
+unfoldable sameTest : Test → Test → Bool
+sameTest t u = eqb (testNumber t) (testNumber u)
+
+same-test : (t u : Test) → T (sameTest t u) → t ≡ u
+unfolding sameTest
+same-test t u h = sym (test-back t) ∙ ap testOf (eqb→eq (testNumber t) (testNumber u) h) ∙ test-back u
+
+unfoldable pub isTransfer : Command → Bool
+isTransfer (Tells t) = false
+isTransfer (Moves Read) = true
+isTransfer (Moves Write) = true
+isTransfer (Moves Unmap) = false
+isTransfer (Alters a) = false
+
+-- commands that make a reservation
+unfoldable pub isMaker : Command → Bool
+isMaker (Tells t) = false
+isMaker (Moves m) = false
+isMaker (Alters a) = makes a
+
+long-least : (long : ℕ) → T (eqb long 6 || (eqb long 10 || eqb long 16)) → 1 ≤ long
+long-least long t =
+    by-equal long 6 (λ b. T (b || (eqb long 10 || eqb long 16)) → 1 ≤ long) (λ e _. omega arith)
+    (λ _. by-equal long 10 (λ b. T (b || eqb long 16) → 1 ≤ long) (λ e _. omega arith) (λ _ h. let e = eqb→eq long 16 h in omega arith)) t
+
+-- a rule of the rows of some commands
+unfoldable pub ofThese : (Command → Bool) → (Form → Bool) → Form → Bool
+ofThese P Q f = not (P (f .command)) || Q f
+
+-- READ and WRITE test byte 1 and then their count
+unfoldable transferTests : Form → Bool
+transferTests f = sameTest (f .first) Protection && sameTest (f .second) Count
+
+-- RESERVE and PREEMPT test their type last
+unfoldable makerTests : Form → Bool
+makerTests f = sameTest (f .second) Kind
+
+transfer-rule : (cdb : List ℕ) → T (rowRule (ofThese isTransfer transferTests) (entryOf cdb))
+unfolding entryOf entryFor lines rowRule serviceRule ofThese isTransfer transferTests sameTest testNumber all obeys
+transfer-rule cdb = looked-up (λ _ e. rowRule (ofThese isTransfer transferTests) e) (byte 0 cdb) (action cdb) Unlisted lines tt tt
+
+maker-rule : (cdb : List ℕ) → T (rowRule (ofThese isMaker makerTests) (entryOf cdb))
+unfolding entryOf entryFor lines rowRule serviceRule ofThese isMaker makes makerTests sameTest testNumber all obeys
+maker-rule cdb = looked-up (λ _ e. rowRule (ofThese isMaker makerTests) e) (byte 0 cdb) (action cdb) Unlisted lines tt tt
+
+module _ (cdb : List ℕ) (r : Request) (w : Row (entryOf cdb) cdb r) where
+  row-command : w .form .command ≡ r .command
+  unfolding requestBy
+  row-command = ap (λ (q : Request). q .command) (w .request)
+
+  row-size : number (w .form .size) cdb ≡ r .size
+  unfolding requestBy
+  row-size = ap (λ (q : Request). q .size) (w .request)
+
+  row-kind : byte 2 cdb % 16 ≡ r .kind
+  unfolding requestBy
+  row-kind = ap (λ (q : Request). q .kind) (w .request)
+
+  -- a CDB that is served is not empty
+  pub row-long : 1 ≤ w .long
+  unfolding longRule
+  row-long = long-least (w .long) (subst (λ (e : Entry). T (longRule e)) (w .entry) (long-rule cdb))
+
+  -- a rule of the rows of some commands, at the row of one of them
+  pub row-obeys : (P : Command → Bool) (Q : Form → Bool) → T (rowRule (ofThese P Q) (entryOf cdb)) → T (P (r .command)) → T (Q (w .form))
+  unfolding rowRule serviceRule ofThese
+  row-obeys P Q t h =
+      or-other (not (P (w .form .command))) (Q (w .form)) (not-not-intro (P (w .form .command)) (rw row-command h))
+      (subst (λ (e : Entry). T (rowRule (ofThese P Q) e)) (w .entry) t)
+
+  module _ (h : T (isTransfer (r .command))) where
+    transfer-tests : T (transferTests (w .form))
+    transfer-tests = row-obeys isTransfer transferTests (transfer-rule cdb) h
+
+    transfer-first : w .form .first ≡ Protection
+    unfolding transferTests
+    transfer-first = same-test _ _ (and-l (sameTest (w .form .first) Protection) (sameTest (w .form .second) Count) transfer-tests)
+
+    transfer-second : w .form .second ≡ Count
+    unfolding transferTests
+    transfer-second = same-test _ _ (and-r (sameTest (w .form .first) Protection) (sameTest (w .form .second) Count) transfer-tests)
+
+    -- all that can be wrong with the fields of a READ or WRITE
+    pub transfer-fields : fieldRows (entryOf cdb) cdb
+        ≡ invalidField if bit 2 (byte (w .long - 1) cdb) ∷ invalidField if leb 32 (byte 1 cdb) ∷ invalidField if ltb mostTransfer (r .size) ∷ []
+    unfolding fieldRows codeFieldRows serviceRows testRows wrong
+    transfer-fields = ap (λ (e : Entry). fieldRows e cdb) (w .entry) ∙ rw (transfer-first, transfer-second, row-size)
+
+  maker-second : T (isMaker (r .command)) → w .form .second ≡ Kind
+  unfolding makerTests
+  maker-second h = same-test _ _ (row-obeys isMaker makerTests (maker-rule cdb) h)
+
+  -- ---- where the fields are right
+
+  module _ (good : first (fieldRows (entryOf cdb) cdb) ≡ Good) where
+    row-right : first (testRows (w .form) cdb) ≡ Good
+    unfolding fieldRows codeFieldRows serviceRows refuses
+    row-right = rows-after invalidField _ _ tt (subst (λ (e : Entry). first (fieldRows e cdb) ≡ Good) (w .entry) good)
+
+    second-right : wrong (w .form .second) (r .size) cdb ≡ false
+    unfolding testRows refuses
+    second-right = rw (← row-size) (row-fails invalidField _ _ tt (rows-after invalidField _ _ tt row-right))
+
+    row-fits : T (isTransfer (r .command)) → r .size ≤ mostTransfer
+    unfolding wrong
+    row-fits h = ltb-false _ _ (rw (transfer-second h) at second-right)
+
+    row-typed : T (isMaker (r .command)) → T (isType (r .kind))
+    unfolding wrong
+    row-typed h = rw (← row-kind) (not-not (isType (byte 2 cdb % 16)) (false→T _ (rw (maker-second h) at second-right)))
+
+-- ---- of what a CDB asks for
+
+-- at most 128 blocks, where it is a READ or WRITE
+abbrev pub Fits : Request → Type 0
+Fits r = T (isTransfer (r .command)) → r .size ≤ mostTransfer
+
+-- one of the six types, where it makes a reservation
+abbrev pub Typed : Request → Type 0
+Typed r = T (isMaker (r .command)) → T (isType (r .kind))
+
+module _ (cdb : List ℕ) (r : Request) (e : askedOf cdb ≡ asks r) where
+  pub asked-row : Row (entryOf cdb) cdb r
+  unfolding askedOf
+  asked-row = row-of (entryOf cdb) cdb r e
+
+  pub asked-fits : first (fieldRows (entryOf cdb) cdb) ≡ Good → Fits r
+  asked-fits g = row-fits cdb r asked-row g
+
+  pub asked-typed : first (fieldRows (entryOf cdb) cdb) ≡ Good → Typed r
+  asked-typed g = row-typed cdb r asked-row g

@@ -1,0 +1,68 @@
+// The two functions of the C interface with the unit's record by value: what is left to them is to take the record out and to put it back.
+ghost use mathlib.Core.Path.{_≡_};
+ghost use Rattle.answers.specs.Order.{ifGood};
+ghost use Rattle.reply.specs.Contract.{storeOf, callOf};
+ghost use Rattle.ridge.specs.Interface.{executed, freshened, leaves, leavesFresh};
+use answers::Answer;
+use store::Unit;
+
+// What a function of the interface leaves beside the lent buffers: the unit, and document 01's number.
+pub struct Done {
+    pub unit: Unit,
+    pub answer: u64,
+}
+
+// The unit that was made where the answer is GOOD; any other keeps the old one.
+fn if_good(answer: Answer, made: Unit, unit: Unit) -> Unit
+    ensures { λ r. ⌜ r ≡ ifGood answer made unit ⌝ }
+{
+    match answer {
+        Answer::Good => made,
+        Answer::Refused(_) => unit,
+        Answer::Conflict => unit,
+        Answer::Unusable => unit,
+        Answer::Short => unit,
+    }
+}
+
+// Makes a fresh store in the place of a unit, which bad bounds leave.
+pub fn fresh(capacity: u64, unit: Unit, owners: &mut [u64]) -> Done
+    ensures { λ r. ⌜ leavesFresh (r .answer) (r .unit) (now (owners .exit))
+        ≡ freshened capacity unit (now (owners .entry)) ⌝ }
+{
+    let made = commands::fresh(capacity, owners);
+    let answer = made.answer;
+    let fresh = made.unit;
+    Done {
+        unit: if_good(answer, fresh, unit),
+        answer: answers::number_of(answer),
+    }
+}
+
+// Runs one command on a unit.
+pub fn execute(
+    unit: Unit,
+    owners: &mut [u64],
+    medium: &mut [u8],
+    nexus: u64,
+    cdb: &[u8],
+    data_out: &[u8],
+    data_in: &mut [u8],
+    sense: &mut [u8],
+    returned: &mut u64,
+) -> Done
+    ensures { λ r. ⌜ leaves (r .answer) (now (returned .exit)) (r .unit)
+        (now (owners .exit)) (now (medium .exit)) (now («data_in» .exit)) (now (sense .exit))
+        ≡ executed
+        (storeOf unit (now (owners .entry)) (now (medium .entry)))
+        (callOf nexus (now (cdb .entry)) (now («data_out» .entry)) (now («data_in» .entry)) (now (sense .entry))) ⌝ }
+{
+    let outcome = commands::execute(unit, owners, medium, nexus, cdb, data_out, data_in, sense);
+    let after = outcome.unit;
+    let answer = outcome.answer;
+    *returned = outcome.returned as u64;
+    Done {
+        unit: after,
+        answer: answers::number_of(answer),
+    }
+}

@@ -1,0 +1,244 @@
+-- The one order of tests in its stages, and what a GOOD or a refusal of the whole says of each. Whoever wants to know of a stage cites these laws,
+-- and not the order's text: a stage more is put in here. Assumes nothing.
+use mathlib.Core.Path.{_≡_, refl, sym, ap, ap₂, _∙_}
+use mathlib.Core.Bool.{Bool, true, false, not}
+use mathlib.Core.List.{List, [], _∷_, _++_, append-assoc}
+use Prim.Native.Nat.{ℕ, _≤_}
+use lib.Dec.{T, eqb, ltb, nltb→le}
+use lib.ListN.{length}
+use Rattle.fields.proofs.Tests.{not-not, false→T, T-true}
+use Rattle.answers.specs.declared.Answer.{Answer}
+use Rattle.answers.specs.declared.Answer.the-variants.{Good, Conflict, Unusable}
+use Rattle.answers.specs.Order.{Row, _if_, first, next, refuses, refusing, firstOf, nextBy, refusingBy}
+use Rattle.answers.proofs.OrderLaws.{row-fails, row-stop, first-append, next-after, next-refuses, next-refused, next-first, next-second, good-cases}
+use Rattle.rights.specs.declared.Rights.{Rights}
+use Rattle.forms.specs.Forms.{entryOf, Asked, nothing, asks, askedOf}
+use Rattle.forms.specs.Tests.{codeRows, lengthRows, fieldRows}
+use Rattle.forms.proofs.Refusing.{code-refusing, length-refusing, field-refusing, unserved}
+use Rattle.store.specs.declared.Unit.{Unit}
+use Rattle.store.specs.Store.{Store, Call, usable}
+use Rattle.store.specs.Step.{callRows, storeRows, guardRows, stageRows, ownRows, answerBy, answerTo}
+
+-- ---- the answer of each stage
+
+abbrev pub callAnswer : Call → Answer
+callAnswer c = first (callRows c)
+
+abbrev pub storeAnswer : Store → Answer
+storeAnswer s = first (storeRows s)
+
+abbrev pub codeAnswer : Call → Answer
+codeAnswer c = first (codeRows (entryOf (c .cdb)))
+
+abbrev pub lengthAnswer : Call → Answer
+lengthAnswer c = first (lengthRows (entryOf (c .cdb)) (c .cdb))
+
+abbrev pub fieldAnswer : Call → Answer
+fieldAnswer c = first (fieldRows (entryOf (c .cdb)) (c .cdb))
+
+abbrev pub guardAnswer : Unit → Call → Answer
+guardAnswer u c = first (guardRows (askedOf (c .cdb)) (u .rights) (c .nexus))
+
+abbrev pub ownAnswer : Store → Call → Answer
+ownAnswer s c = first (ownRows (askedOf (c .cdb)) s c)
+
+-- ---- all rows before a command's own refuse
+
+call-refusing : (c : Call) → T (refusing (callRows c))
+unfolding callRows refusingBy refuses
+call-refusing c = tt
+
+store-refusing : (s : Store) → T (refusing (storeRows s))
+unfolding storeRows refusingBy refuses
+store-refusing s = tt
+
+pub guard-refusing : (x : Asked) (r : Rights) (n : ℕ) → T (refusing (guardRows x r n))
+unfolding guardRows refusingBy refuses
+guard-refusing nothing r n = tt
+guard-refusing (asks q) r n = tt
+
+-- ---- one stage after another
+
+then : (xs ys : List Row) (a : Answer) → T (refusing xs) → first ys ≡ a → first (xs ++ ys) ≡ next (first xs) a
+then xs ys a t e = first-append xs ys t ∙ ap (next (first xs)) e
+
+module _ (s : Store) (c : Call) where
+  -- of the stages from the code on
+  abbrev staged : Answer
+  staged = next (codeAnswer c) (next (lengthAnswer c) (next (fieldAnswer c) (next (guardAnswer (s .unit) c) (ownAnswer s c))))
+
+  pub parts : answerTo s c ≡ next (callAnswer c) (next (storeAnswer s) staged)
+  unfolding answerTo answerBy stageRows askedOf
+  parts =
+      simp append-assoc
+      (then (callRows c) _ _ (call-refusing c)
+      (then (storeRows s) _ _ (store-refusing s)
+      (then (codeRows (entryOf (c .cdb))) _ _ (code-refusing (entryOf (c .cdb)))
+      (then (lengthRows (entryOf (c .cdb)) (c .cdb)) _ _ (length-refusing (entryOf (c .cdb)) (c .cdb))
+      (then (fieldRows (entryOf (c .cdb)) (c .cdb)) _ _ (field-refusing (entryOf (c .cdb)) (c .cdb))
+      (then (guardRows (askedOf (c .cdb)) (s .unit .rights) (c .nexus)) _ _ (guard-refusing (askedOf (c .cdb)) (s .unit .rights) (c .nexus)) refl))))))
+
+-- ---- a usable store is not seen before a command's own tests
+
+usable-by : (b : Bool) → T b → first (Unusable if not b ∷ []) ≡ Good
+unfolding firstOf
+usable-by true t = refl
+usable-by false t = absurd t
+
+usable-passes : (s : Store) → T (usable s) → storeAnswer s ≡ Good
+unfolding storeRows
+usable-passes s u = usable-by (usable s) u
+
+passes-usable : (s : Store) → storeAnswer s ≡ Good → T (usable s)
+unfolding storeRows refuses
+passes-usable s e = not-not (usable s) (false→T (not (usable s)) (row-fails Unusable _ _ tt e))
+
+-- ---- where nothing before the guard refuses
+
+pub record Cleared (s : Store) (c : Call) : Type 0 where
+  pub call : callAnswer c ≡ Good
+  pub store : T (usable s)
+  pub code : codeAnswer c ≡ Good
+  pub length : lengthAnswer c ≡ Good
+  pub fields : fieldAnswer c ≡ Good
+
+-- the guard and the command's own tests decide
+pub cleared : (s : Store) (c : Call) → Cleared s c → answerTo s c ≡ next (guardAnswer (s .unit) c) (ownAnswer s c)
+cleared s c p =
+    parts s c
+    ∙ next-after (callAnswer c) _ (p .call)
+    ∙ next-after (storeAnswer s) _ (usable-passes s (p .store))
+    ∙ next-after (codeAnswer c) _ (p .code)
+    ∙ next-after (lengthAnswer c) _ (p .length)
+    ∙ next-after (fieldAnswer c) _ (p .fields)
+
+-- a call that is right by itself: who calls, the buffers, and the code, length and fields of the CDB
+pub itself-cleared : (s : Store) (c : Call) → T (usable s)
+    → first (callRows c ++ (codeRows (entryOf (c .cdb)) ++ (lengthRows (entryOf (c .cdb)) (c .cdb) ++ fieldRows (entryOf (c .cdb)) (c .cdb)))) ≡ Good
+    → Cleared s c
+itself-cleared s c u e =
+    let e₀ : next (callAnswer c) (next (codeAnswer c) (next (lengthAnswer c) (fieldAnswer c))) ≡ Good =
+    sym
+    (then (callRows c) _ _ (call-refusing c)
+    (then (codeRows (entryOf (c .cdb))) _ _ (code-refusing (entryOf (c .cdb)))
+    (first-append (lengthRows (entryOf (c .cdb)) (c .cdb)) _ (length-refusing (entryOf (c .cdb)) (c .cdb)))))
+    ∙ e in
+    let e₁ = next-second (callAnswer c) _ e₀ in
+    let e₂ = next-second (codeAnswer c) _ e₁ in
+    record {
+      call = next-first (callAnswer c) _ e₀;
+      store = u;
+      code = next-first (codeAnswer c) _ e₁;
+      length = next-first (lengthAnswer c) _ e₂;
+      fields = next-second (lengthAnswer c) _ e₂;
+    }
+
+-- "Testing room before the conflict, which tells an outsider how full the pool is": a conflict is answered whatever the command's own tests say
+pub conflict-first : (s : Store) (c : Call) → Cleared s c → guardAnswer (s .unit) c ≡ Conflict → answerTo s c ≡ Conflict
+unfolding refuses
+conflict-first s c p e = cleared s c p ∙ ap (λ (a : Answer). next a (ownAnswer s c)) e ∙ next-refuses Conflict (ownAnswer s c) tt
+
+-- ---- what a GOOD says
+
+module _ (s : Store) (c : Call) (good : answerTo s c ≡ Good) where
+  past-call : next (storeAnswer s) (staged s c) ≡ Good
+  past-call = next-second (callAnswer c) _ (sym (parts s c) ∙ good)
+
+  past-store : staged s c ≡ Good
+  past-store = next-second (storeAnswer s) _ past-call
+
+  past-code : next (lengthAnswer c) (next (fieldAnswer c) (next (guardAnswer (s .unit) c) (ownAnswer s c))) ≡ Good
+  past-code = next-second (codeAnswer c) _ past-store
+
+  past-length : next (fieldAnswer c) (next (guardAnswer (s .unit) c) (ownAnswer s c)) ≡ Good
+  past-length = next-second (lengthAnswer c) _ past-code
+
+  past-fields : next (guardAnswer (s .unit) c) (ownAnswer s c) ≡ Good
+  past-fields = next-second (fieldAnswer c) _ past-length
+
+  pub good-cleared : Cleared s c
+  good-cleared = record {
+    call = next-first (callAnswer c) _ (sym (parts s c) ∙ good);
+    store = passes-usable s (next-first (storeAnswer s) _ past-call);
+    code = next-first (codeAnswer c) _ past-store;
+    length = next-first (lengthAnswer c) _ past-code;
+    fields = next-first (fieldAnswer c) _ past-length;
+  }
+
+  pub good-guard : guardAnswer (s .unit) c ≡ Good
+  good-guard = next-first (guardAnswer (s .unit) c) _ past-fields
+
+  pub good-own : ownAnswer s c ≡ Good
+  good-own = next-second (guardAnswer (s .unit) c) _ past-fields
+
+pub call-nexus : (c : Call) → callAnswer c ≡ Good → c .nexus ≤ 15
+unfolding callRows refuses
+call-nexus c e = nltb→le 15 (c .nexus) (false→T (ltb 15 (c .nexus)) (row-fails Unusable _ _ tt e))
+
+-- ---- what a refusal says
+
+-- a call that the guard refuses is refused
+pub guard-refused : (s : Store) (c : Call) → T (refuses (guardAnswer (s .unit) c)) → T (refuses (answerTo s c))
+guard-refused s c t =
+    rw (parts s c, next-refuses (guardAnswer (s .unit) c) (ownAnswer s c) t)
+    (next-refused (callAnswer c) _ (next-refused (storeAnswer s) _ (next-refused (codeAnswer c) _ (next-refused (lengthAnswer c) _ (next-refused (fieldAnswer c) _ t)))))
+
+-- a call for nothing that the table serves is refused
+pub unserved-refused : (s : Store) (c : Call) → askedOf (c .cdb) ≡ nothing → T (refuses (answerTo s c))
+unfolding askedOf
+unserved-refused s c e =
+    good-cases (answerTo s c)
+    (λ g. absurd (unserved (entryOf (c .cdb)) (c .cdb) e (good-cleared s c g .code) (good-cleared s c g .fields))) (λ t. t)
+
+call-eleven : (x y z : Bool) → next (first (Unusable if x ∷ Unusable if y ∷ Unusable if z ∷ [])) Unusable ≡ Unusable
+unfolding firstOf nextBy refuses
+call-eleven true y z = refl
+call-eleven false true z = refl
+call-eleven false false true = refl
+call-eleven false false false = refl
+
+-- "11 … slots or capacity out of bounds, medium not 512 x slots bytes, invalid state"
+pub unusable-answer : (s : Store) (c : Call) → T (not (usable s)) → answerTo s c ≡ Unusable
+unfolding callRows storeRows refuses
+unusable-answer s c t =
+    parts s c
+    ∙ ap (λ (a : Answer). next (callAnswer c) (next a (staged s c))) (row-stop Unusable _ _ (T-true (not (usable s)) t))
+    ∙ ap (next (callAnswer c)) (next-refuses Unusable (staged s c) tt)
+    ∙ call-eleven (ltb 15 (c .nexus)) (eqb (length (c .cdb)) 0) (ltb (length (c .sense)) 18)
+
+-- ---- two stores, one call
+
+-- the tests before a command's own see the unit's record alone: usable stores that agree on it answer alike, if the command's own tests do where the
+-- guard lets them be made
+module _ (s t : Store) (c : Call) (u : T (usable s)) (v : T (usable t)) (e : s .unit ≡ t .unit)
+    (h : guardAnswer (s .unit) c ≡ Good → ownAnswer s c ≡ ownAnswer t c) where
+  past-guard : next (guardAnswer (s .unit) c) (ownAnswer s c) ≡ next (guardAnswer (s .unit) c) (ownAnswer t c)
+  past-guard =
+      good-cases (guardAnswer (s .unit) c) (λ g. ap (next (guardAnswer (s .unit) c)) (h g))
+      (λ r. next-refuses (guardAnswer (s .unit) c) (ownAnswer s c) r ∙ sym (next-refuses (guardAnswer (s .unit) c) (ownAnswer t c) r))
+
+  staged-alike : staged s c ≡ staged t c
+  staged-alike =
+      ap (λ (a : Answer). next (codeAnswer c) (next (lengthAnswer c) (next (fieldAnswer c) a)))
+      (past-guard ∙ ap (λ (x : Unit). next (guardAnswer x c) (ownAnswer t c)) e)
+
+  pub answers-alike : answerTo s c ≡ answerTo t c
+  answers-alike =
+      parts s c
+      ∙ ap₂ (λ (a b : Answer). next (callAnswer c) (next a b)) (usable-passes s u ∙ sym (usable-passes t v)) staged-alike
+      ∙ sym (parts t c)
+
+-- ---- one store, two calls
+
+-- the stages have the same rows
+pub record SameRows (s : Store) (c d : Call) : Type 0 where
+  pub call : callRows c ≡ callRows d
+  pub code : codeRows (entryOf (c .cdb)) ≡ codeRows (entryOf (d .cdb))
+  pub length : lengthRows (entryOf (c .cdb)) (c .cdb) ≡ lengthRows (entryOf (d .cdb)) (d .cdb)
+  pub fields : fieldRows (entryOf (c .cdb)) (c .cdb) ≡ fieldRows (entryOf (d .cdb)) (d .cdb)
+  pub guard : guardRows (askedOf (c .cdb)) (s .unit .rights) (c .nexus) ≡ guardRows (askedOf (d .cdb)) (s .unit .rights) (d .nexus)
+  pub own : ownRows (askedOf (c .cdb)) s c ≡ ownRows (askedOf (d .cdb)) s d
+
+pub same-answer : (s : Store) (c d : Call) → SameRows s c d → answerTo s c ≡ answerTo s d
+unfolding answerTo answerBy stageRows askedOf
+same-answer s c d e = rw (e .call, e .code, e .length, e .fields, e .guard, e .own)

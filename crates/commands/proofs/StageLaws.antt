@@ -10,20 +10,18 @@ use lib.Dec.{T, eqb}
 use lib.ListN.{length}
 use Rattle.answers.specs.declared.Answer.{Answer}
 use Rattle.answers.specs.declared.Answer.the-variants.{Good, Conflict, Unusable}
-use Rattle.answers.specs.Answers.{notListed, invalidField}
-use Rattle.answers.specs.Order.{Row, _if_, first, next, refuses, refusing, firstOf, refusingBy}
-use Rattle.answers.proofs.OrderLaws.{row-pass, row-stop, row-end, first-append, refusing-append, next-end, next-after, next-refuses, next-first, next-second}
+use Rattle.answers.specs.Answers.{notListed}
+use Rattle.answers.specs.Order.{Row, _if_, first, next, refuses, refusing}
+use Rattle.answers.proofs.OrderLaws.{row-pass, row-stop, row-end, first-append, refusing-append, next-end, next-after, next-refuses, next-first, next-second, good-cases}
 use Rattle.rights.specs.declared.Rights.{Rights}
-use Rattle.forms.specs.declared.Service.{Service}
-use Rattle.forms.specs.declared.Service.the-variants.{Served, Other}
 use Rattle.forms.specs.declared.Code.{Code}
 use Rattle.forms.specs.declared.Entry.{Entry}
 use Rattle.forms.specs.declared.Entry.the-variants.{Listed, Unlisted}
 use Rattle.forms.specs.declared.Request.{Request}
 use Rattle.forms.specs.Forms.{entryOf, Asked, nothing, asks, askedBy, askedIn}
-use Rattle.forms.specs.Tests.{isUnlisted, codeRows, lengthRows, serviceRows, codeFieldRows, fieldRows}
-use Rattle.forms.proofs.Table.{longRule, long-rule}
-use Rattle.forms.proofs.Refusing.{code-refusing, length-refusing, field-refusing}
+use Rattle.forms.specs.Tests.{isUnlisted, codeRows, lengthRows, codeFieldRows, fieldRows}
+use Rattle.forms.proofs.Table.{isNothing, longRule, long-rule}
+use Rattle.forms.proofs.Refusing.{code-refusing, length-refusing, field-refusing, unserved}
 use Rattle.decoder.specs.declared.Decoded.{Decoded}
 use Rattle.decoder.specs.declared.Decoded.the-variants.{Asks, Wrong}
 use Rattle.decoder.specs.Decoding.{decoded}
@@ -84,19 +82,12 @@ module _ (r : Rights) (n : ℕ) (cdb : List ℕ) where
 
     module _ (k : length cdb ≡ code .long) (d : Decoded) (g : d ≡ decoded (first (codeFieldRows code cdb)) (askedBy (code .service) cdb)) where
       wrong-at : (x : Asked) (v a : Answer) → decoded v x ≡ Wrong a → Wrong a ≡ decoded (next v (first (guardRows x r n))) x
-      unfolding guardRows
+      unfolding guardRows isNothing
       wrong-at nothing v a w = sym w ∙ ap (λ (b : Answer). decoded b nothing) (sym (ap (next v) row-end ∙ next-end v))
       wrong-at (asks q) v a w =
           sym w
           ∙ ap (λ (b : Answer). decoded b (asks q))
-          (sym (next-refuses v _ (wrong-refuses v a (asks q) w (λ z. absurd (asks-nothing q z)))))
-        where
-          isNothing : Asked → Bool
-          isNothing nothing = true
-          isNothing (asks q) = false
-
-          asks-nothing : (q : Request) → asks q ≡ nothing → ⊥
-          asks-nothing q z = true≢false (sym (ap isNothing z))
+          (sym (next-refuses v _ (wrong-refuses v a (asks q) w (λ z. absurd (true≢false (sym (ap isNothing z)))))))
 
       pub asked-wrong : (a : Answer) → d ≡ Wrong a → Wrong a ≡ askedAt e r n cdb
       unfolding askedAt askedIn
@@ -124,7 +115,11 @@ module _ (r : Rights) (n : ℕ) (cdb : List ℕ) where
             (decoded-asks _ q (guard-left ∙ row-pass Conflict _ _ t ∙ row-end)
             ∙ ap (decoded (first (stageRows (Listed code) r n cdb))) (sym (asks-this _ (askedBy (code .service) cdb) q (sym g ∙ w))))
 
--- where the stages let pass, the fields are right
+-- where the stages let pass, the code is listed and the fields are right
+stage-code : (e : Entry) (r : Rights) (n : ℕ) (cdb : List ℕ) → first (stageRows e r n cdb) ≡ Good → first (codeRows e) ≡ Good
+unfolding stageRows
+stage-code e r n cdb g = next-first (first (codeRows e)) _ (sym (first-append (codeRows e) _ (code-refusing e)) ∙ g)
+
 pub stage-fields : (e : Entry) (r : Rights) (n : ℕ) (cdb : List ℕ) → first (stageRows e r n cdb) ≡ Good → first (fieldRows e cdb) ≡ Good
 unfolding stageRows
 stage-fields e r n cdb g =
@@ -136,30 +131,9 @@ stage-fields e r n cdb g =
 
 -- ---- what is not served is refused
 
-other-refused : (b k : Bool) → T (refuses (first (notListed if false ∷ Unusable if b ∷ invalidField if k ∷ invalidField if true ∷ [])))
-unfolding firstOf refuses
-other-refused true k = tt
-other-refused false true = tt
-other-refused false false = tt
-
-service-refused : (long : ℕ) (v : Service) (r : Rights) (n : ℕ) (cdb : List ℕ) → askedBy v cdb ≡ nothing
-    → T (refuses (first (stageRows (Listed (record { long = long; service = v })) r n cdb)))
-unfolding stageRows codeRows lengthRows fieldRows codeFieldRows serviceRows guardRows isUnlisted askedIn askedBy
-service-refused long (Served f) r n cdb e = absurd (true≢false (sym (ap isNothing e)))
-  where
-    isNothing : Asked → Bool
-    isNothing nothing = true
-    isNothing (asks q) = false
-service-refused long Other r n cdb e = other-refused _ _
-
-unlisted-refused : (r : Rights) (n : ℕ) (cdb : List ℕ) → T (refuses (first (stageRows Unlisted r n cdb)))
-unfolding stageRows codeRows isUnlisted firstOf refuses
-unlisted-refused r n cdb = tt
-
 nothing-refused : (e : Entry) (r : Rights) (n : ℕ) (cdb : List ℕ) → askedIn e cdb ≡ nothing → T (refuses (first (stageRows e r n cdb)))
-unfolding askedIn
-nothing-refused (Listed code) r n cdb e = service-refused (code .long) (code .service) r n cdb e
-nothing-refused Unlisted r n cdb e = unlisted-refused r n cdb
+nothing-refused e r n cdb h =
+    good-cases (first (stageRows e r n cdb)) (λ g. absurd (unserved e cdb h (stage-code e r n cdb g) (stage-fields e r n cdb g))) (λ t. t)
 
 -- ---- what the stages say, read off what they let pass
 

@@ -1,12 +1,14 @@
--- The cases, by computation: `step` meets them all, and the useless builds fail A, E and H.
+-- The cases, by computation: `step` meets them all.
 -- Assumes nothing.
-use mathlib.Core.Bool.{not, _&&_}
+use mathlib.Core.Bool.{_&&_}
 use lib.Dec.{T}
+use Rattle.answers.specs.declared.Answer.the-variants.{Good}
 use Rattle.store.specs.Step.{step}
-use Rattle.demands.specs.Checker.{passed, allPassed}
-use Rattle.demands.specs.Cases.{cases, caseA, caseE, caseH}
-use Rattle.demands.specs.FurtherCases.{furtherCases}
-use Rattle.demands.specs.Useless.{blind, unmoved, constant, refusing, leaving}
+use Rattle.demands.specs.Checker.{passedBy, passed, allPassed}
+use Rattle.demands.specs.Cases.{cases, caseA, caseE}
+use Rattle.demands.specs.FurtherCases.{rising, blocks, caseMostWritten, furtherCases}
+use Rattle.demands.specs.Comparisons.{withoutMedium}
+use Rattle.demands.specs.Useless.{says, pretends}
 use Rattle.demands.proofs.Computing.{meaning}
 
 -- A to L, one statement over their list
@@ -18,11 +20,16 @@ pub further-cases-pass : T (allPassed step furtherCases)
 unfolding meaning
 further-cases-pass = tt
 
--- "demand 2 shuts them out (A, E, H)"
-pub refusing-fails : T (not (passed refusing caseA) && not (passed refusing caseE) && not (passed refusing caseH))
-unfolding meaning refusing constant blind unmoved
-refusing-fails = tt
+-- "Count 128 passes", in a WRITE: all but the bytes in the slots
+pub most-written-passes : T (passedBy withoutMedium step caseMostWritten)
+unfolding meaning withoutMedium rising blocks caseMostWritten
+most-written-passes = tt
 
-pub leaving-fails : T (not (passed leaving caseA) && not (passed leaving caseE) && not (passed leaving caseH))
-unfolding meaning leaving constant blind unmoved
-leaving-fails = tt
+-- what the useless builds may still pass: A, of those that say GOOD to all, and A and E, of those that store nothing
+pub always-good-A : T (passed (says Good) caseA)
+unfolding meaning says
+always-good-A = tt
+
+pub pretends-A-E : T (passed pretends caseA && passed pretends caseE)
+unfolding meaning pretends
+pretends-A-E = tt

@@ -9,13 +9,14 @@ use Rattle.store.specs.Fresh.{FreshResult, fresh}
 use Rattle.reply.specs.declared.Outcome.{Outcome}
 use Rattle.reply.specs.Contract.{left}
 use Rattle.commands.proofs.Only.{execute-only}
-use Rattle.demands.specs.History.{Build}
+use Rattle.demands.specs.History.{Build, machine}
 use Rattle.demands.specs.Generation.{generation}
-use Rattle.demands.specs.Demands.{Demand1, Demand2, Demand3}
+use Rattle.demands.specs.Demands.{Demand1, Demand2, Demand3, Secrecy}
+use Rattle.demands.specs.Contents.{plain}
 use Rattle.demands.proofs.CasesPass.{cases-pass}
 use Rattle.demands.proofs.Generation.{generation-rises, generation-stays}
 use Rattle.demands.proofs.Demand1.{refused-store, demand-1}
-use Rattle.demands.proofs.Demand3.{demand-3}
+use Rattle.demands.proofs.Demand3.{secrecy, demand-3}
 
 pub demand-2 : Demand2 step
 demand-2 = record {
@@ -52,6 +53,9 @@ exact-meets-1 f e = subst Demand1 (sym (exact-one f e)) demand-1
 
 pub exact-meets-2 : (f : Build) → ((s : Store) (c : Call) → f s c ≡ step s c) → Demand2 f
 exact-meets-2 f e = subst Demand2 (sym (exact-one f e)) demand-2
+
+pub exact-meets-secrecy : (f : Build) → ((s : Store) (c : Call) → f s c ≡ step s c) → Secrecy (machine f) plain
+exact-meets-secrecy f e = subst (λ (g : Build). Secrecy (machine g) plain) (sym (exact-one f e)) secrecy
 
 pub exact-meets-3 : (f : Build) → ((s : Store) (c : Call) → f s c ≡ step s c) → Demand3 f
 exact-meets-3 f e = subst Demand3 (sym (exact-one f e)) demand-3

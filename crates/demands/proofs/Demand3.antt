@@ -1,17 +1,17 @@
 -- Demand 3, proved of `step`: what a nexus learns that is shut out from reading.
 -- Assumes nothing.
 use mathlib.Core.Path.{_≡_, refl, sym, ap, ap₂, _∙_}
-use mathlib.Core.Bool.{Bool, true, false, not}
-use mathlib.Core.List.{List, [], _∷_}
+use mathlib.Core.Bool.{Bool, true, false, not, _||_}
+use mathlib.Core.List.{List, [], _∷_, map}
 use Prim.Native.Nat.{ℕ, zero, suc}
-use lib.Dec.{T, eqb, eqb·suc-zero}
+use lib.Dec.{T, eqb, ltb, eqb·suc-zero, lt→ltb, nleb→lt}
 use Rattle.fields.specs.Bytes.{zeros}
 use Rattle.fields.specs.Field.{byte}
-use Rattle.fields.proofs.Tests.{and-map, or-l, or-other, nor-l, not-not-intro, not-map, test, true→T, false→T, T-true}
+use Rattle.fields.proofs.Tests.{and-r, and-map, or-other, nor-l, nand-rest, not-not-intro, not-map, test, true→T, false→T, T-true}
 use Rattle.answers.specs.declared.Answer.{Answer}
 use Rattle.answers.specs.declared.Answer.the-variants.{Good, Refused, Conflict, Unusable, Short}
 use Rattle.answers.specs.Order.{first, ifGoodBy, refuses}
-use Rattle.answers.proofs.OrderLaws.{not-good}
+use Rattle.answers.proofs.OrderLaws.{row-stop, not-good}
 use Rattle.pool.specs.Valid.{slotsOk}
 use Rattle.pool.proofs.Keeping.{poolOk-of, mapOk-zeros}
 use Rattle.rights.specs.declared.Rights.{Rights}
@@ -24,13 +24,14 @@ use Rattle.forms.specs.declared.Command.the-variants.{Tells, Moves, Alters}
 use Rattle.forms.specs.Forms.{Asked, nothing, asks, askedOf}
 use Rattle.forms.proofs.Table.{isMoves, movesIn, altersIn, alters-code, moves-code}
 use Rattle.store.specs.declared.Unit.{Unit}
-use Rattle.store.specs.Store.{Store, Call, Seen, usable, seenOf}
+use Rattle.store.specs.Store.{Store, Call, usable, seenOf}
 use Rattle.store.specs.Move.{access}
-use Rattle.store.specs.Step.{guarded, guardRows, ownRows, dataBy, storeBy, step, answerTo}
+use Rattle.store.specs.Step.{callRows, guarded, guardRows, ownRows, answerBy, dataBy, storeBy, step, answerTo}
 use Rattle.store.proofs.Parts.{guardAnswer, guard-refused, answers-alike}
-use Rattle.store.proofs.StoreLaws.{guard-stops, step-seen, step-store, step-ways, leaves-both, unit-rows, unit-data, unit-by, unit-left, pool-left, store-left}
-use Rattle.demands.specs.History.{after, isOut, isShutOut, kept, add, watched, heard}
-use Rattle.demands.specs.Demands.{Demand3}
+use Rattle.store.proofs.StoreLaws.{guard-stops, step-answer, step-seen, step-store, step-ways, leaves-both, unit-rows, unit-data, unit-by, unit-left, pool-left, store-left}
+use Rattle.demands.specs.History.{Event, call, Machine, after, afterEvent, machine, isOut, isShutOut, isSomebody, isKept, kept, add, watchedOn, heardOn, replay, watched, heard}
+use Rattle.demands.specs.Demands.{Demand3, Secrecy}
+use Rattle.demands.specs.Contents.{plain}
 use Rattle.demands.proofs.Usable.{usable-unit, usable-of, usable-stays}
 
 -- ---- a refusal tells nothing
@@ -85,23 +86,41 @@ other-alters-not : (c : Call) → T (not (isOut c)) → T (not (altersIn (askedO
 unfolding isOut
 other-alters-not c o = not-map (eqb (byte 0 (c .cdb)) 0x5F) (altersIn (askedOf (c .cdb))) (alters-code (c .cdb)) o
 
-not-out : (s : Store) (c : Call) → T (not (kept s c)) → T (not (isOut c))
-unfolding kept
-not-out s c t = nor-l (isOut c) (isShutOut s c) t
+-- ---- a nexus above 15
 
--- a kept call that moves something is one by a nexus that is shut out
-kept-shut : (s : Store) (c : Call) → T (kept s c) → T (movesIn (askedOf (c .cdb))) → T (isShutOut s c)
-unfolding kept isOut
-kept-shut s c t m = or-other (eqb (byte 0 (c .cdb)) 0x5F) (isShutOut s c) (moves-code (c .cdb) m) t
+module _ (c : Call) (n : T (not (isSomebody c))) where
+  nobody-above : T (ltb 15 (c .nexus))
+  unfolding isSomebody
+  nobody-above = lt→ltb 15 (c .nexus) (nleb→lt (c .nexus) 15 n)
+
+  nobody-answer : (s : Store) → answerTo s c ≡ Unusable
+  unfolding answerTo answerBy callRows
+  nobody-answer s = row-stop Unusable _ _ (T-true (ltb 15 (c .nexus)) nobody-above)
+
+  pub nobody-eleven : (s : Store) → step s c .seen .answer ≡ Unusable
+  nobody-eleven s = step-answer s c ∙ nobody-answer s
+
+  nobody-seen : (s : Store) → step s c .seen ≡ seenOf Unusable [] c
+  unfolding refuses
+  nobody-seen s =
+      step-seen s c ∙ ap (λ (a : Answer). seenOf a (dataBy (askedOf (c .cdb)) s) c) (nobody-answer s) ∙ seen-refused Unusable _ [] c tt
+
+  pub nobody-learns : (s t : Store) → step s c .seen ≡ step t c .seen
+  nobody-learns s t = nobody-seen s ∙ sym (nobody-seen t)
+
+  pub nobody-still : (s : Store) → after step s c ≡ s
+  unfolding after refuses
+  nobody-still s = step-ways (λ x. x ≡ s) s c (λ g. not-good (answerTo s c) (rw (nobody-answer s) tt) g) refl
 
 -- ---- one call
 
 -- a call whose command moves nothing, or is refused, gives the same on two stores that agree on the unit's record
-module _ (s t : Store) (c : Call) (u : T (usable s)) (v : T (usable t)) (e : s .unit ≡ t .unit) (h : T (kept s c)) where
+module _ (s t : Store) (c : Call) (u : T (usable s)) (v : T (usable t)) (e : s .unit ≡ t .unit)
+    (h : T (movesIn (askedOf (c .cdb))) → T (isShutOut s c)) where
   own-same : guardAnswer (s .unit) c ≡ Good → first (ownRows (askedOf (c .cdb)) s c) ≡ first (ownRows (askedOf (c .cdb)) t c)
   own-same g =
       test (movesIn (askedOf (c .cdb)))
-      (λ m. not-good (guardAnswer (s .unit) c) (shut-guard s c m (kept-shut s c h m)) g)
+      (λ m. not-good (guardAnswer (s .unit) c) (shut-guard s c m (h m)) g)
       (λ n. ap first (unit-rows (askedOf (c .cdb)) s t c n e))
 
   same-answer : answerTo s c ≡ answerTo t c
@@ -110,35 +129,63 @@ module _ (s t : Store) (c : Call) (u : T (usable s)) (v : T (usable t)) (e : s .
   seen-same : seenOf (answerTo s c) (dataBy (askedOf (c .cdb)) s) c ≡ seenOf (answerTo s c) (dataBy (askedOf (c .cdb)) t) c
   seen-same =
       test (movesIn (askedOf (c .cdb)))
-      (λ m. seen-refused (answerTo s c) _ _ c (shut-refused s c m (kept-shut s c h m)))
+      (λ m. seen-refused (answerTo s c) _ _ c (shut-refused s c m (h m)))
       (λ n. ap (λ (bs : List ℕ). seenOf (answerTo s c) bs c) (unit-data (askedOf (c .cdb)) s t n e))
 
-  -- a kept call gives the same on two stores that agree on the unit
-  pub kept-seen : step s c .seen ≡ step t c .seen
-  kept-seen =
+  pub alike-seen : step s c .seen ≡ step t c .seen
+  alike-seen =
       step-seen s c ∙ seen-same ∙ ap (λ (a : Answer). seenOf a (dataBy (askedOf (c .cdb)) t) c) same-answer ∙ sym (step-seen t c)
 
   -- and leaves them so
-  pub kept-unit : after step s c .unit ≡ after step t c .unit
+  pub alike-unit : after step s c .unit ≡ after step t c .unit
   unfolding after
-  kept-unit =
+  alike-unit =
       rw (step-store s c, step-store t c, same-answer)
       (leaves-both (λ x y. x .unit ≡ y .unit) (answerTo t c) (storeBy (askedOf (c .cdb)) s c) s (storeBy (askedOf (c .cdb)) t c) t (unit-by (askedOf (c .cdb)) s t c e) e)
 
--- a reservation-out call acts on the unit alone, by the call alone
-pub out-seen : (s t : Store) (c : Call) → T (usable s) → T (usable t) → s .unit ≡ t .unit → T (isOut c) → step s c .seen ≡ step t c .seen
-unfolding kept
-out-seen s t c u v e o = kept-seen s t c u v e (or-l (isOut c) (isShutOut s c) o)
+pub never : {X : Type 0} (b : Bool) → T b → T (not b) → X
+never true t n = absurd n
+never false t n = absurd t
 
-pub out-unit : (s t : Store) (c : Call) → T (usable s) → T (usable t) → s .unit ≡ t .unit → T (isOut c)
-    → after step s c .unit ≡ after step t c .unit
-unfolding kept
-out-unit s t c u v e o = kept-unit s t c u v e (or-l (isOut c) (isShutOut s c) o)
+-- a reservation-out call acts on the unit alone, by the call alone
+module _ (s t : Store) (c : Call) (u : T (usable s)) (v : T (usable t)) (e : s .unit ≡ t .unit) (o : T (isOut c)) where
+  out-shut : T (movesIn (askedOf (c .cdb))) → T (isShutOut s c)
+  out-shut m = never (movesIn (askedOf (c .cdb))) m (out-moves-not c o)
+
+  pub out-seen : step s c .seen ≡ step t c .seen
+  out-seen = alike-seen s t c u v e out-shut
+
+  pub out-unit : after step s c .unit ≡ after step t c .unit
+  out-unit = alike-unit s t c u v e out-shut
 
 -- any call but a reservation-out leaves the unit
 pub other-unit : (s : Store) (c : Call) → T (not (isOut c)) → after step s c .unit ≡ s .unit
 unfolding after
 other-unit s c o = step-ways (λ x. x .unit ≡ s .unit) s c (λ g. unit-left (askedOf (c .cdb)) s c (other-alters-not c o)) refl
+
+-- so does any call that is not kept
+pub unkept-unit : (s : Store) (c : Call) → T (not (kept s c)) → after step s c .unit ≡ s .unit
+unfolding isKept isShutOut
+unkept-unit s c t =
+    test (isSomebody c)
+    (λ k. other-unit s c (nor-l (isOut c) (isShutOut s c) (nand-rest (isSomebody c) (isOut c || isShutOut s c) k t)))
+    (λ n. ap (λ (x : Store). x .unit) (nobody-still c n s))
+
+-- ---- a kept call
+
+-- a kept call that moves something is one by a nexus that is shut out
+kept-shut : (s : Store) (c : Call) → T (kept s c) → T (movesIn (askedOf (c .cdb))) → T (isShutOut s c)
+unfolding isKept isShutOut isOut
+kept-shut s c t m =
+    or-other (eqb (byte 0 (c .cdb)) 0x5F) (isShutOut s c) (moves-code (c .cdb) m) (and-r (isSomebody c) (isOut c || isShutOut s c) t)
+
+-- so a kept call gives the same on two stores that agree on the unit's record, and leaves them so
+module _ (s t : Store) (c : Call) (u : T (usable s)) (v : T (usable t)) (e : s .unit ≡ t .unit) (k : T (kept s c)) where
+  pub kept-seen : step s c .seen ≡ step t c .seen
+  kept-seen = alike-seen s t c u v e (kept-shut s c k)
+
+  pub kept-unit : after step s c .unit ≡ after step t c .unit
+  kept-unit = alike-unit s t c u v e (kept-shut s c k)
 
 -- "Apart from reservation-out calls, a shut-out call changes no stored thing"
 pub shut-out-still : (s : Store) (c : Call) → T (not (isOut c)) → T (isShutOut s c) → after step s c ≡ s
@@ -154,37 +201,67 @@ pub out-pool : (s : Store) (c : Call) → T (isOut c) → after step s c .pool �
 unfolding after
 out-pool s c o = step-ways (λ x. x .pool ≡ s .pool) s c (λ g. pool-left (askedOf (c .cdb)) s c (out-moves-not c o)) refl
 
--- ---- histories
+-- ---- histories of any machine
 
--- a store with nothing in it, and all that everybody may know
-plain : Unit → Store
-plain u = record { unit = u; pool = record { owners = zeros 1; medium = zeros 512 } }
+-- what is asked of one call: a kept one gives the same on two usable states that agree on what everybody may know, and leaves them so; any other
+-- leaves what everybody may know; a usable state stays usable
+module _ (m : Machine) (plain : Unit → m .State) (plain-unit : (u : Unit) → m .unit (plain u) ≡ u)
+    (plain-usable : (s : m .State) → T (m .usable s) → T (m .usable (plain (m .unit s))))
+    (stays : (s : m .State) (e : Event) → T (m .usable s) → T (m .usable (m .next s e)))
+    (sees : (s t : m .State) (c : Call) → T (m .usable s) → T (m .usable t) → m .unit s ≡ m .unit t → T (isKept (m .unit s) c) → m .seen s c ≡ m .seen t c)
+    (leaves : (s t : m .State) (c : Call) → T (m .usable s) → T (m .usable t) → m .unit s ≡ m .unit t → T (isKept (m .unit s) c)
+    → m .unit (m .next s (call c)) ≡ m .unit (m .next t (call c)))
+    (others : (s : m .State) (c : Call) → T (not (isKept (m .unit s) c)) → m .unit (m .next s (call c)) ≡ m .unit s)
+    (learns : (s t : m .State) (c : Call) → T (not (isSomebody c)) → m .seen s c ≡ m .seen t c)
+    (changes : (s : m .State) (c : Call) → T (not (isSomebody c)) → m .next s (call c) ≡ s) where
+  heard-is-by : (s : m .State) (es : List Event) → T (m .usable s) → heardOn m s es ≡ replay m plain (m .unit s) (watchedOn m s es)
+  unfolding heardOn watchedOn replay add
+  heard-is-by s [] u = refl
+  heard-is-by s (call c ∷ es) u = go (isKept (m .unit s) c) refl (heard-is-by (m .next s (call c)) es (stays s (call c) u))
+    where
+      x : m .State
+      x = m .next s (call c)
 
-plain-usable : (s : Store) → T (usable s) → T (usable (plain (s .unit)))
+      go : (b : Bool) → isKept (m .unit s) c ≡ b → heardOn m x es ≡ replay m plain (m .unit x) (watchedOn m x es)
+          → add b (m .seen s c) (heardOn m x es) ≡ replay m plain (m .unit s) (add b c (watchedOn m x es))
+      go true e ih =
+          ap₂ _∷_ (sees s (plain (m .unit s)) c u (plain-usable s u) (sym (plain-unit (m .unit s))) (true→T _ e))
+          (ih ∙ ap (λ (v : Unit). replay m plain v (watchedOn m x es))
+          (leaves s (plain (m .unit s)) c u (plain-usable s u) (sym (plain-unit (m .unit s))) (true→T _ e)))
+      go false e ih = ih ∙ ap (λ (v : Unit). replay m plain v (watchedOn m x es)) (others s c (false→T _ e))
+
+  pub secrecy-by : Secrecy m plain
+  secrecy-by = record {
+    heard-is = heard-is-by;
+    secret = λ s t es ds u v e w. heard-is-by s es u ∙ ap₂ (replay m plain) e w ∙ sym (heard-is-by t ds v);
+    nobody-learns = learns;
+    nobody-changes = changes;
+  }
+
+-- ---- histories of `step`
+
+pub plain-usable : (s : Store) → T (usable s) → T (usable (plain (s .unit)))
 unfolding plain slotsOk zeros
 plain-usable s u = usable-of (plain (s .unit)) (usable-unit s u) (poolOk-of (s .unit .capacity) _ tt refl (mapOk-zeros (s .unit .capacity) 1))
 
--- the kept calls alone, on a store with nothing in it
-replay : Unit → List Call → List Seen
-replay u [] = []
-replay u (c ∷ cs) = step (plain u) c .seen ∷ replay (after step (plain u) c .unit) cs
+pub plain-unit : (u : Unit) → plain u .unit ≡ u
+unfolding plain
+plain-unit u = refl
 
--- what is heard is a function of the unit and of what is watched
-heard-is : (s : Store) (cs : List Call) → T (usable s) → heard step s cs ≡ replay (s .unit) (watched step s cs)
-unfolding heard watched replay add plain
-heard-is s [] u = refl
-heard-is s (c ∷ cs) u = go (kept s c) refl (heard-is (after step s c) cs (usable-stays s c u))
-  where
-    go : (b : Bool) → kept s c ≡ b → heard step (after step s c) cs ≡ replay (after step s c .unit) (watched step (after step s c) cs)
-        → heard step s (c ∷ cs) ≡ replay (s .unit) (watched step s (c ∷ cs))
-    go true e ih =
-        rw e (ap₂ _∷_ (kept-seen s (plain (s .unit)) c u (plain-usable s u) refl (true→T _ e))
-        (ih ∙ ap (λ (x : Unit). replay x (watched step (after step s c) cs)) (kept-unit s (plain (s .unit)) c u (plain-usable s u) refl (true→T _ e))))
-    go false e ih = rw e (ih ∙ ap (λ (x : Unit). replay x (watched step (after step s c) cs)) (other-unit s c (not-out s c (false→T _ e))))
+pub event-usable : (s : Store) (e : Event) → T (usable s) → T (usable (afterEvent step s e))
+unfolding afterEvent
+event-usable s (call c) u = usable-stays s c u
+
+pub secrecy : Secrecy (machine step) plain
+unfolding afterEvent
+secrecy =
+    secrecy-by (machine step) plain plain-unit plain-usable event-usable
+    kept-seen kept-unit unkept-unit (λ s t c n. nobody-learns c n s t) (λ s c n. nobody-still c n s)
 
 pub secret : (s t : Store) (cs ds : List Call) → T (usable s) → T (usable t) → s .unit ≡ t .unit
     → watched step s cs ≡ watched step t ds → heard step s cs ≡ heard step t ds
-secret s t cs ds u v e w = heard-is s cs u ∙ ap₂ replay e w ∙ sym (heard-is t ds v)
+unfolding watched heard
+secret s t cs ds u v e w = secrecy .secret s t (map call cs) (map call ds) u v e w
 
 pub demand-3 : Demand3 step
 demand-3 = record { secret = secret; still = shut-out-still; out-pool = out-pool }

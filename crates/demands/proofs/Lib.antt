@@ -2,9 +2,10 @@ pub mod Computing
 pub mod Usable
 pub mod Fresh
 pub mod Demand1
-pub mod Refusals
 pub mod Demand3
+pub mod AtC
 pub mod CasesPass
+pub mod Comparing
 pub mod UselessFail
 pub mod Witness
 pub mod Generation
@@ -17,3 +18,10 @@ pub mod Checking
 pub mod Slots
 pub mod Widths
 pub mod Storage
+pub mod FromFresh
+pub mod Altering
+pub mod Telling
+pub mod Conflicts
+pub mod Reservations
+pub mod WrongBuilds
+pub mod Proved

@@ -33,8 +33,8 @@ use Rattle.store.specs.Step.{commandRows, ownRows, commandData, dataBy, command
 use Rattle.store.proofs.Parts.{answers-alike, good-own}
 use Rattle.store.proofs.StoreLaws.{step-answer, step-seen, command-rows, command-data, command-unit}
 use Rattle.store.proofs.MoveLaws.{write-passes}
-use Rattle.demands.specs.History.{after}
-use Rattle.demands.specs.Contents.{descriptorsOf, unmapEach, Same, seenAll}
+use Rattle.demands.specs.History.{Event, call, after, afterEvent, machine, seenAll}
+use Rattle.demands.specs.Contents.{descriptorsOf, unmapEach, Same}
 use Rattle.demands.proofs.Usable.{usable-pool, usable-stays}
 use Rattle.demands.proofs.Fresh.{fresh-usable}
 use Rattle.demands.proofs.Moving.{done-after, refused-after}
@@ -149,12 +149,12 @@ same-after s t c u v e =
 
 -- ---- for ever
 
-pub same-answers : (s t : Store) → T (usable s) → T (usable t) → Same s t → (cs : List Call) → seenAll step s cs ≡ seenAll step t cs
-unfolding seenAll
+pub same-answers : (s t : Store) → T (usable s) → T (usable t) → Same s t → (es : List Event) → seenAll (machine step) s es ≡ seenAll (machine step) t es
+unfolding seenAll afterEvent
 same-answers s t u v e [] = refl
-same-answers s t u v e (c ∷ cs) =
+same-answers s t u v e (call c ∷ es) =
     ap₂ (λ (x : Seen) (xs : List Seen). x ∷ xs) (same-seen s t c u v e)
-    (same-answers (after step s c) (after step t c) (usable-stays s c u) (usable-stays t c v) (same-after s t c u v e) cs)
+    (same-answers (after step s c) (after step t c) (usable-stays s c u) (usable-stays t c v) (same-after s t c u v e) es)
 
 -- ---- a fresh store
 
@@ -167,8 +167,8 @@ fresh-same capacity slots medium medium′ = record {
 }
 
 pub old-bytes-hidden : (capacity slots : ℕ) (medium medium′ : List ℕ) → T (capacityOk capacity) → T (slotsOk slots)
-    → length medium ≡ 512 * slots → length medium′ ≡ 512 * slots → (cs : List Call)
-    → seenAll step (freshStore capacity slots medium) cs ≡ seenAll step (freshStore capacity slots medium′) cs
-old-bytes-hidden capacity slots medium medium′ x y e e′ cs =
+    → length medium ≡ 512 * slots → length medium′ ≡ 512 * slots → (es : List Event)
+    → seenAll (machine step) (freshStore capacity slots medium) es ≡ seenAll (machine step) (freshStore capacity slots medium′) es
+old-bytes-hidden capacity slots medium medium′ x y e e′ es =
     same-answers (freshStore capacity slots medium) (freshStore capacity slots medium′) (fresh-usable capacity slots medium x y e)
-    (fresh-usable capacity slots medium′ x y e′) (fresh-same capacity slots medium medium′) cs
+    (fresh-usable capacity slots medium′ x y e′) (fresh-same capacity slots medium medium′) es

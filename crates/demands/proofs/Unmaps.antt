@@ -1,7 +1,7 @@
 -- UNMAP, of whole calls: each block that a considered descriptor names reads as zeros after it, all others as before. The descriptors act one after
 -- another, and neither their order nor their overlapping shows in what is read. Assumes nothing.
 use mathlib.Core.Path.{_≡_, refl, sym, ap, _∙_}
-use mathlib.Core.Bool.{Bool, true, false, not, _&&_, _||_, cond}
+use mathlib.Core.Bool.{Bool, true, false, not, _||_, cond}
 use mathlib.Core.List.{List, [], _∷_, _++_}
 use Prim.Native.Nat.{ℕ, zero, suc, _+_, _*_, _≤_, _<_}
 use native.Mathlib.Omega.{arith}
@@ -21,7 +21,7 @@ use Rattle.store.specs.Store.{Store, Call, seenOf}
 use Rattle.store.specs.Move.{moved}
 use Rattle.store.specs.Step.{step}
 use Rattle.demands.specs.History.{after}
-use Rattle.demands.specs.Contents.{Asks, addressIn, IsGood, Outside, descriptorsFrom, descriptorsOf, unmapEach, covers, names}
+use Rattle.demands.specs.Contents.{inRange, Asks, addressIn, IsGood, Outside, descriptorsFrom, descriptorsOf, unmapEach, covers, names}
 use Rattle.demands.proofs.Usable.{usable-stays}
 use Rattle.demands.proofs.Moving.{good-usable, good-pool, after-ways, moves-unit}
 use Rattle.demands.proofs.Transfers.{read-seen, read-sees}
@@ -47,12 +47,14 @@ unmap-pool s c a e = good-pool Unmap s c a e ∙ each-moved (a .request) (s .poo
 
 -- ---- what is read
 
-in-range : (a n b : ℕ) → T (leb a b && ltb b (a + n)) → Outside a n b → ⊥
+pub in-range : (a n b : ℕ) → T (inRange a n b) → Outside a n b → ⊥
+unfolding inRange
 in-range a n b t out =
     let h = out (leb→le a b (and-l (leb a b) (ltb b (a + n)) t)) in
     let k = ltb→lt b (a + n) (and-r (leb a b) (ltb b (a + n)) t) in absurd (omega arith)
 
-range-in : (a n b : ℕ) → a ≤ b → b < a + n → T (leb a b && ltb b (a + n))
+pub range-in : (a n b : ℕ) → a ≤ b → b < a + n → T (inRange a n b)
+unfolding inRange
 range-in a n b h k = both (leb a b) (ltb b (a + n)) (le→leb a b h) (lt→ltb b (a + n) k)
 
 -- after one descriptor

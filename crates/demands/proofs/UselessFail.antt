@@ -1,21 +1,28 @@
--- The useless builds meet demand 3 and fail the cases; a build that tells how full the pool is fails demand 3.
--- Assumes nothing.
-use mathlib.Core.Path.{_≡_, refl, sym, ap, _∙_}
-use mathlib.Core.Bool.{Bool, true, false, not, _&&_}
-use mathlib.Core.List.{List, [], _∷_, map}
+-- The useless builds meet demand 3 and fail the cases, each by what it does: every build that refuses everything fails A, every one with a constant
+-- answer E, every one that leaves the state alone H. A build that tests room before the conflict fails demand 3. Assumes nothing.
+use mathlib.Core.Path.{_≡_, refl, sym, ap, _∙_, subst}
+use mathlib.Core.Bool.{Bool, true, false, not, _&&_, cond}
+use mathlib.Core.List.{List, [], _∷_, _++_, map}
 use Prim.Native.Nat.{ℕ}
 use native.Mathlib.Omega.{arith}
-use lib.Dec.{T, eqb, eqb→eq, not-T}
-use lib.ListN.{length, take}
+use lib.Dec.{T, eqb, not-T, T-not}
 use Rattle.fields.proofs.Tests.{and-l, and-r}
+use Rattle.answers.specs.declared.Refusal.{Refusal}
+use Rattle.answers.specs.declared.Refusal.the-variants.{NotListed, InvalidField, OutOfRange, ListLength, ListField, NoPlace, OtherType, NoRoom}
 use Rattle.answers.specs.declared.Answer.{Answer}
-use Rattle.answers.specs.Answers.{numberOf, statusOf}
-use Rattle.store.specs.Store.{Store, Call, Seen}
+use Rattle.answers.specs.declared.Answer.the-variants.{Good, Refused, Conflict, Unusable, Short}
+use Rattle.answers.specs.Answers.{codesOf, numberOf, noRoom}
+use Rattle.forms.specs.Forms.{askedOf}
+use Rattle.store.specs.Store.{Store, Call, Seen, usable}
 use Rattle.demands.specs.History.{Build, after, kept, add, watched, heard}
-use Rattle.demands.specs.Demands.{Demand3}
-use Rattle.demands.specs.Useless.{blind, unmoved, constant, refusing, leaving}
-use Rattle.demands.specs.Checker.{Want, good, refused, same, sameStatus, senseShows, met, Case, Expect, _gives_, run, passed}
-use Rattle.demands.specs.Cases.{caseOf, caseH, writeH}
+use Rattle.store.specs.Step.{step}
+use Rattle.demands.specs.Demands.{Demand2, Demand3}
+use Rattle.demands.specs.Useless.{Refusing, Constant, Leaving, blind, unmoved, constant, refusing, leaving, isWrite, lacksRoom, roomFirst}
+use Rattle.demands.specs.Checker.{Want, good, lays, refused, whole, met, Case, Expect, _gives_, run, passedBy, passed, allPassed}
+use Rattle.demands.specs.Bench.{block, two, made, write-10}
+use Rattle.demands.specs.Cases.{caseOf, caseStill, caseNew, caseA, caseB, caseC, caseD, caseE, caseF, caseG, caseH, caseI, cases, writeH}
+use Rattle.demands.proofs.Computing.{meaning}
+use Rattle.demands.proofs.Comparing.{met-equal}
 
 -- ---- they meet demand 3
 
@@ -56,42 +63,200 @@ leaving-meets = constant-meets _
 
 -- ---- they fail the cases
 
-module _ (f : Build) (k : Case) (s : Store) (c : Call) (w : Want) (es : List Expect) (t : T (run f k s ((c gives w) ∷ es))) where
-  first-met : T (met w c (f s c .seen))
+module _ (f : Build) (end s : Store) (c : Call) (w : Call → Want) (es : List Expect) (t : T (run whole f end s ((c gives w) ∷ es))) where
+  shown : numberOf (f s c .seen .answer) ≡ w c .number
   unfolding run
-  first-met = and-l (met w c (f s c .seen)) (run f k (f s c .store) es) t
+  shown = met-equal (w c) (f s c .seen) (and-l (met (whole .shows) (w c) (f s c .seen)) (run whole f end (f s c .store) es) t) .number
 
-  rest-runs : T (run f k (f s c .store) es)
+  rest : T (run whole f end (f s c .store) es)
   unfolding run
-  rest-runs = and-r (met w c (f s c .seen)) (run f k (f s c .store) es) t
+  rest = and-r (met (whole .shows) (w c) (f s c .seen)) (run whole f end (f s c .store) es) t
 
-first-of : (a b c d e : Bool) → T (a && b && c && d && e) → T a
-first-of true b c d e t = tt
-first-of false b c d e t = t
+-- the number 0 is GOOD's alone
+number-good : (a : Answer) → numberOf a ≡ 0 → a ≡ Good
+unfolding numberOf codesOf
+number-good Good e = refl
+number-good (Refused s) e = absurd (coded (s .refusal) e)
+  where
+    coded : (r : Refusal) → codesOf r .number ≡ 0 → ⊥
+    coded NotListed e = omega arith
+    coded InvalidField e = omega arith
+    coded OutOfRange e = omega arith
+    coded ListLength e = omega arith
+    coded ListField e = omega arith
+    coded NoPlace e = omega arith
+    coded OtherType e = omega arith
+    coded NoRoom e = omega arith
+number-good Conflict e = absurd (omega arith)
+number-good Unusable e = absurd (omega arith)
+number-good Short e = absurd (omega arith)
 
-met-number : (w : Want) (c : Call) (x : Seen) → T (met w c x) → numberOf (x .answer) ≡ w .number
-unfolding met
-met-number w c x t =
-    eqb→eq (numberOf (x .answer)) (w .number)
-    (first-of (eqb (numberOf (x .answer)) (w .number)) (sameStatus (statusOf (x .answer)) (w .status)) (senseShows (w .sense) (c .sense) (x .sense))
-    (eqb (x .returned) (w .returned)) (same (take (length (w .begins)) (x .dataIn)) (w .begins)) t)
+-- A, E and H begin with a call that must be done
+module _ (f : Build) (r : Refusing f) where
+  refusing-any : (x : Case) (c : Call) (bs : List ℕ) (es : List Expect) → x .calls ≡ (c gives good bs) ∷ es → T (not (passed f x))
+  unfolding passed passedBy good
+  refusing-any x c bs es e =
+      not-T (passed f x)
+      (λ t. r .refuses (x .start) c
+      (number-good (f (x .start) c .seen .answer)
+      (shown f (x .end) (x .start) c (good bs) es (subst (λ (l : List Expect). T (run whole f (x .end) (x .start) l)) e t))))
 
-eight-or-none : (n : ℕ) → n ≡ 8 → n ≡ 0 → ⊥
-eight-or-none n e d = omega arith
+  pub refusing-fails-A : T (not (passed f caseA))
+  unfolding caseA caseNew caseStill caseOf
+  refusing-fails-A = refusing-any caseA _ _ _ refl
 
-two-answers : (x : Seen) → T (met (refused 8 0x07 0x27 0x07) writeH x) → T (met (good []) writeH x) → ⊥
-unfolding refused good
-two-answers x t u =
-    eight-or-none (numberOf (x .answer)) (met-number (refused 8 0x07 0x27 0x07) writeH x t) (met-number (good []) writeH x u)
+  pub refusing-fails-E : T (not (passed f caseE))
+  unfolding caseE caseNew caseStill caseOf
+  refusing-fails-E = refusing-any caseE _ _ _ refl
 
--- H asks two answers of one call, so what does not look at the store fails it, whatever it tells of each call
+  pub refusing-fails-H : T (not (passed f caseH))
+  unfolding caseH caseOf
+  refusing-fails-H = refusing-any caseH _ _ _ refl
+
+-- E wants 0 and then 3, and H wants 0 and then 8. A has one call, and whoever says GOOD to all may pass it: CasesPass, `always-good-A`
+module _ (a : Answer) (f : Build) (k : Constant a f) where
+  constantly : (s : Store) (c : Call) (n : ℕ) → numberOf (f s c .seen .answer) ≡ n → numberOf a ≡ n
+  constantly s c n e = subst (λ (b : Answer). numberOf b ≡ n) (k .answers s c) e
+
+  pub constant-fails-E : T (not (passed f caseE))
+  unfolding passed passedBy caseE caseNew caseStill caseOf good refused lays
+  constant-fails-E =
+      not-T (passed f caseE)
+      (λ t. zero-or-three (numberOf a) (constantly _ _ 0 (shown f _ _ _ _ _ t)) (constantly _ _ 3 (shown f _ _ _ _ _ (rest f _ _ _ _ _ t))))
+    where
+      zero-or-three : (n : ℕ) → n ≡ 0 → n ≡ 3 → ⊥
+      zero-or-three n e d = omega arith
+
+  pub constant-fails-H : T (not (passed f caseH))
+  unfolding passed passedBy caseH caseOf good refused lays
+  constant-fails-H =
+      not-T (passed f caseH)
+      (λ t. zero-or-eight (numberOf a) (constantly _ _ 0 (shown f _ _ _ _ _ t)) (constantly _ _ 8 (shown f _ _ _ _ _ (rest f _ _ _ _ _ t))))
+    where
+      zero-or-eight : (n : ℕ) → n ≡ 0 → n ≡ 8 → ⊥
+      zero-or-eight n e d = omega arith
+
+-- H asks two answers of one call, between which the store must change. A and E change nothing, so that whoever stores nothing may pass them:
+-- CasesPass, `pretends-A-E`
+module _ (f : Build) (l : Leaving f) where
+  -- the calls that follow, on the same store
+  next : (end s : Store) (c : Call) (w : Call → Want) (es : List Expect) → T (run whole f end s ((c gives w) ∷ es)) → T (run whole f end s es)
+  next end s c w es t = subst (λ (x : Store). T (run whole f end x es)) (l .stays s c) (rest f end s c w es t)
+
+  pub leaving-fails-H : T (not (passed f caseH))
+  unfolding passed passedBy caseH caseOf good refused lays
+  leaving-fails-H = not-T (passed f caseH) go
+    where
+      eight-or-none : (n : ℕ) → n ≡ 8 → n ≡ 0 → ⊥
+      eight-or-none n e d = omega arith
+
+      go : T (passed f caseH) → ⊥
+      go t =
+          let u = next _ _ _ _ _ t in
+          eight-or-none (numberOf (f (caseH .start) writeH .seen .answer)) (shown f _ _ writeH _ _ u)
+          (shown f _ _ writeH _ _ (next _ _ _ _ _ (next _ _ _ _ _ (next _ _ _ _ _ u))))
+
+-- what is seen is a function of the call alone: it leaves the state alone
 pub blind-fails : (g : Call → Seen) → T (not (passed (blind g) caseH))
-unfolding passed caseH caseOf blind
-blind-fails g =
-    not-T (passed (blind g) caseH)
-    (λ t. two-answers (g writeH) (first-met (blind g) caseH _ writeH _ _ t)
-    (first-met (blind g) caseH _ writeH _ _ (rest-runs (blind g) caseH _ _ _ _ (rest-runs (blind g) caseH _ _ _ _ (rest-runs (blind g) caseH _ _ _ _ t)))))
+unfolding after
+blind-fails g = leaving-fails-H (blind g) (record { stays = blind-still g })
 
-pub constant-fails : (a : Answer) → T (not (passed (constant a) caseH))
-unfolding constant
-constant-fails a = blind-fails (unmoved a)
+-- the builds written out are of their kinds
+pub refusing-refuses : Refusing refusing
+unfolding refusing constant blind unmoved
+refusing-refuses = record { refuses = λ s c e. let z : _≡_ {A = ℕ} 0 1 = cc in omega arith }
+
+pub constant-answers : (a : Answer) → Constant a (constant a)
+unfolding constant blind unmoved
+constant-answers a = record { answers = λ s c. refl }
+
+pub leaving-stays : Leaving leaving
+unfolding leaving constant blind
+leaving-stays = record { stays = λ s c. refl }
+
+-- ---- "demand 2 shuts them out (A, E, H)"
+
+one-of-all : (f : Build) (xs : List Case) (x : Case) (ys : List Case) → T (allPassed f (xs ++ (x ∷ ys))) → T (passed f x)
+unfolding allPassed
+one-of-all f [] x ys t = and-l (passed f x) (allPassed f ys) t
+one-of-all f (z ∷ xs) x ys t = one-of-all f xs x ys (and-r (passed f z) (allPassed f (xs ++ (x ∷ ys))) t)
+
+module _ (f : Build) (d : Demand2 f) where
+  pub demand-2-does-some : Refusing f → ⊥
+  unfolding cases
+  demand-2-does-some r = T-not (passed f caseA) (refusing-fails-A f r) (one-of-all f [] caseA _ (d .bench))
+
+  pub demand-2-tells-apart : (a : Answer) → Constant a f → ⊥
+  unfolding cases
+  demand-2-tells-apart a k =
+      T-not (passed f caseE) (constant-fails-E a f k) (one-of-all f (caseA ∷ caseB ∷ caseC ∷ caseD ∷ []) caseE _ (d .bench))
+
+  pub demand-2-stores : Leaving f → ⊥
+  unfolding cases
+  demand-2-stores l =
+      T-not (passed f caseH) (leaving-fails-H f l)
+      (one-of-all f (caseA ∷ caseB ∷ caseC ∷ caseD ∷ caseE ∷ caseF ∷ caseG ∷ []) caseH _ (d .bench))
+
+-- ---- slip 4
+
+-- where `step` does not answer 10 it is `step`
+pub room-first-else : (s : Store) (c : Call) → T (not (eqb (numberOf (step s c .seen .answer)) 10)) → roomFirst s c ≡ step s c
+unfolding roomFirst
+room-first-else s c t = go (eqb (numberOf (step s c .seen .answer)) 10) t
+  where
+    go : (b : Bool) → T (not b)
+        → cond (b && lacksRoom (askedOf (c .cdb)) (s .pool .owners)) (blind (unmoved noRoom) s c) (step s c) ≡ step s c
+    go true t = absurd t
+    go false t = refl
+
+-- it fails I, and passes G and H, whose WRITEs lack room too
+pub room-first-cases : T (not (passed roomFirst caseI) && passed roomFirst caseG && passed roomFirst caseH)
+unfolding meaning roomFirst lacksRoom isWrite blind unmoved
+room-first-cases = tt
+
+-- type 6, held by nexus 1, and nexus 3 is shut out: its WRITE has room in the one store, and lacks it in the other
+half : Store
+half = made (1 ∷ 0 ∷ []) two 6 1 0
+
+full : Store
+full = made (5 ∷ 4 ∷ []) two 6 1 0
+
+one-write : List Call
+one-write = write-10 3 0 2 (block 0xB0 ++ block 0xC0) ∷ []
+
+heard-number : List Seen → ℕ
+heard-number [] = 0
+heard-number (x ∷ xs) = numberOf (x .answer)
+
+half-usable : T (usable half)
+unfolding meaning half
+half-usable = tt
+
+full-usable : T (usable full)
+unfolding meaning full
+full-usable = tt
+
+same-unit : half .unit ≡ full .unit
+unfolding meaning half full
+same-unit = refl
+
+same-watched : watched roomFirst half one-write ≡ watched roomFirst full one-write
+unfolding meaning half full one-write roomFirst lacksRoom isWrite blind unmoved
+same-watched = refl
+
+-- the conflict, and the room
+heard-half : heard-number (heard roomFirst half one-write) ≡ 10
+unfolding meaning half one-write heard-number roomFirst lacksRoom isWrite blind unmoved
+heard-half = refl
+
+heard-full : heard-number (heard roomFirst full one-write) ≡ 8
+unfolding meaning full one-write heard-number roomFirst lacksRoom isWrite blind unmoved
+heard-full = refl
+
+pub room-first-fails : Demand3 roomFirst → ⊥
+room-first-fails d =
+    ten-or-eight (heard-number (heard roomFirst half one-write)) heard-half
+    (ap heard-number (d .secret half full one-write one-write half-usable full-usable same-unit same-watched) ∙ heard-full)
+  where
+    ten-or-eight : (n : ℕ) → n ≡ 10 → n ≡ 8 → ⊥
+    ten-or-eight n e d = omega arith

@@ -1,8 +1,8 @@
 -- The stores and calls of the bench cases.
 -- Assumes nothing.
 use mathlib.Core.List.{List, [], _∷_, _++_}
-use Prim.Native.Nat.{ℕ, _+_}
-use lib.ListN.{replicate}
+use Prim.Native.Nat.{ℕ, _+_, _-_}
+use lib.ListN.{length, replicate}
 use Rattle.fields.specs.Bytes.{zeros}
 use Rattle.fields.specs.Field.{bytes}
 use Rattle.rights.specs.declared.Place.{Place}
@@ -26,24 +26,38 @@ new capacity = freshStore capacity 2 before
 unfoldable pub at : ℕ → ℕ → Place
 at n k = record { nexus = n; key = k }
 
+-- these places, and unused ones up to eight
+unfoldable pub places : List Place → List Place
+places ps = ps ++ replicate (8 - length ps) unused
+
 -- nexus 1 has the key 11h, nexus 2 the key 22h
 unfoldable pub two : List Place
-two = at 1 0x11 ∷ at 2 0x22 ∷ unused ∷ unused ∷ unused ∷ unused ∷ unused ∷ unused ∷ []
+two = places (at 1 0x11 ∷ at 2 0x22 ∷ [])
 
 unfoldable pub eight : List Place
 eight = at 1 0x11 ∷ at 2 0x22 ∷ at 3 0x33 ∷ at 4 0x44 ∷ at 5 0x55 ∷ at 6 0x66 ∷ at 7 0x77 ∷ at 8 0x88 ∷ []
 
--- capacity 8, with these owners, registrations, type, holder and generation
-unfoldable pub made : List ℕ → List Place → ℕ → ℕ → ℕ → Store
-made owners places kind holder generation = record {
+-- capacity 8, with these owners and bytes of the slots, registrations, type, holder and generation
+unfoldable pub made-of : List ℕ → List ℕ → List Place → ℕ → ℕ → ℕ → Store
+made-of owners medium places kind holder generation = record {
   unit = record { capacity = 8; rights = record { places = places; kind = kind; holder = holder; generation = generation } };
-  pool = record { owners = owners; medium = before };
+  pool = record { owners = owners; medium = medium };
 }
+
+-- the same with the bytes of before in the slots
+unfoldable pub made : List ℕ → List Place → ℕ → ℕ → ℕ → Store
+made owners places kind holder generation = made-of owners before places kind holder generation
 
 -- ---- calls
 
+-- a call that is lent so many bytes of data-in, AAh, and of sense, 99h: bytes that nothing writes
+unfoldable pub lent : ℕ → ℕ → ℕ → List ℕ → List ℕ → Call
+lent dataIn sense nexus cdb out =
+    record { nexus = nexus; cdb = cdb; dataOut = out; dataIn = replicate dataIn 0xAA; sense = replicate sense 0x99 }
+
+-- more than any of these returns, and more than the 18 bytes of sense
 unfoldable pub call : ℕ → List ℕ → List ℕ → Call
-call n cdb out = record { nexus = n; cdb = cdb; dataOut = out; dataIn = replicate 1024 0xAA; sense = replicate 20 0x99 }
+call nexus cdb out = lent 76 20 nexus cdb out
 
 unfoldable pub ready : ℕ → Call
 ready n = call n (zeros 6) []
@@ -61,11 +75,12 @@ cdb-10 code a n = code ∷ 0 ∷ (bytes 4 a ++ (0 ∷ (bytes 2 n ++ (0 ∷ [])))
 unfoldable pub cdb-16 : ℕ → ℕ → ℕ → List ℕ
 cdb-16 code a n = code ∷ 0 ∷ (bytes 8 a ++ (bytes 4 n ++ zeros 2))
 
+-- lent two blocks and a bit
 unfoldable pub read-10 : ℕ → ℕ → ℕ → Call
-read-10 nexus a n = call nexus (cdb-10 0x28 a n) []
+read-10 nexus a n = lent 1027 20 nexus (cdb-10 0x28 a n) []
 
 unfoldable pub read-16 : ℕ → ℕ → ℕ → Call
-read-16 nexus a n = call nexus (cdb-16 0x88 a n) []
+read-16 nexus a n = lent 1027 20 nexus (cdb-16 0x88 a n) []
 
 unfoldable pub write-10 : ℕ → ℕ → ℕ → List ℕ → Call
 write-10 nexus a n out = call nexus (cdb-10 0x2A a n) out

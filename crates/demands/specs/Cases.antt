@@ -5,15 +5,19 @@ use Prim.Native.Nat.{ℕ, _+_, _-_, _^_}
 use Rattle.fields.specs.Bytes.{zeros}
 use Rattle.fields.specs.Field.{bytes}
 use Rattle.store.specs.Store.{Store, Call}
-use Rattle.demands.specs.Checker.{good, good-long, refused, conflicts, Expect, Case, _gives_}
-use Rattle.demands.specs.Bench.{block, new, two, made, capacity-10, capacity-16, read-10, read-16, write-10, write-16, unmap-1, out, in-call}
+use Rattle.demands.specs.Checker.{good, refused, conflicts, Expect, Case, _gives_}
+use Rattle.demands.specs.Bench.{block, new, at, places, two, made, made-of, capacity-10, capacity-16, read-10, read-16, write-10, write-16, unmap-1, out, in-call}
 
-unfoldable pub caseOf : Store → List Expect → List ℕ → ℕ → ℕ → Case
-caseOf start calls owners kind generation = record { start = start; calls = calls; owners = owners; kind = kind; generation = generation }
+unfoldable pub caseOf : Store → List Expect → Store → Case
+caseOf start calls end = record { start = start; calls = calls; end = end }
 
--- on a fresh store that is left as it was
+-- on a store that is left as it was
+unfoldable pub caseStill : Store → List Expect → Case
+caseStill start calls = caseOf start calls start
+
+-- on a fresh one that is
 unfoldable pub caseNew : ℕ → List Expect → Case
-caseNew capacity calls = caseOf (new capacity) calls (0 ∷ 0 ∷ []) 0 0
+caseNew capacity calls = caseStill (new capacity) calls
 
 unfoldable pub caseA : Case
 caseA = caseNew (2 ^ 32 - 1) (capacity-10 0 gives good (bytes 4 0xFFFF_FFFE ++ bytes 4 0x0000_0200) ∷ [])
@@ -21,12 +25,13 @@ caseA = caseNew (2 ^ 32 - 1) (capacity-10 0 gives good (bytes 4 0xFFFF_FFFE ++ b
 unfoldable pub caseB : Case
 caseB = caseNew (2 ^ 32) (capacity-10 0 gives good (bytes 4 0xFFFF_FFFF ++ bytes 4 0x0000_0200) ∷ [])
 
+-- byte 14 is C0h
 unfoldable pub caseC : Case
 caseC = caseNew (2 ^ 32 + 1)
     (capacity-10 0 gives good (bytes 4 0xFFFF_FFFF ++ bytes 4 0x0000_0200)
-    ∷ capacity-16 0 gives good-long 32 (bytes 8 0x0000_0001_0000_0000 ++ bytes 4 0x0000_0200) ∷ [])
+    ∷ capacity-16 0 gives good (bytes 8 0x0000_0001_0000_0000 ++ (bytes 4 0x0000_0200 ++ (0 ∷ 0 ∷ 0xC0 ∷ zeros 17))) ∷ [])
 
--- slip 1: the sum does not wrap, in READ, WRITE and UNMAP
+-- slip 1: the sum does not wrap, in READ, and besides in WRITE and UNMAP
 unfoldable pub caseD : Case
 caseD = caseNew (2 ^ 40)
     (read-16 0 0xFFFF_FFFF_FFFF_FFFF 1 gives refused 3 0x05 0x21 0x00
@@ -49,39 +54,47 @@ caseG = caseNew 8
 unfoldable pub writeH : Call
 writeH = write-10 0 1 2 (block 0xB0 ++ block 0xC0)
 
--- block 2 in slot 0, and each block with its own bytes
+-- fresh: blocks 0 and 1 get the slots 0 and 1; in the end block 2 is in slot 0, and each block has its own bytes
 unfoldable pub caseH : Case
-caseH = caseOf (made (1 ∷ 2 ∷ []) two 0 0 0)
-    (writeH gives refused 8 0x07 0x27 0x07
-    ∷ read-10 0 0 2 gives good (block 0x10 ++ block 0x20)
+caseH = caseOf (new 8)
+    (write-10 0 0 2 (block 0x30 ++ block 0x40) gives good []
+    ∷ writeH gives refused 8 0x07 0x27 0x07
+    ∷ read-10 0 0 2 gives good (block 0x30 ++ block 0x40)
     ∷ unmap-1 0 0 1 gives good []
     ∷ writeH gives good []
     ∷ read-10 0 1 2 gives good (block 0xB0 ++ block 0xC0)
     ∷ read-16 0 2 1 gives good (block 0xC0)
-    ∷ read-10 0 0 1 gives good (zeros 512) ∷ []) (3 ∷ 2 ∷ []) 0 0
+    ∷ read-10 0 0 1 gives good (zeros 512) ∷ [])
+    (made-of (3 ∷ 2 ∷ []) (block 0xC0 ++ block 0xB0) (places []) 0 0 0)
 
 -- slip 4: an outsider learns of the conflict, not of the room
 unfoldable pub caseI : Case
-caseI = caseOf (made (0 ∷ 0 ∷ []) two 5 1 0)
+caseI = caseStill (made (0 ∷ 0 ∷ []) two 5 1 0)
     (read-10 3 0 1 gives good (zeros 512)
     ∷ write-10 3 0 1 (block 0xB0) gives conflicts
     ∷ write-10 3 0 3 (block 0xB0 ++ (block 0xC0 ++ block 0xD0)) gives conflicts
-    ∷ unmap-1 3 0 1 gives conflicts ∷ []) (0 ∷ 0 ∷ []) 5 0
+    ∷ unmap-1 3 0 1 gives conflicts ∷ [])
 
+-- and a registered nexus reads
 unfoldable pub caseJ : Case
-caseJ = caseOf (made (0 ∷ 0 ∷ []) two 6 1 0)
-    (read-10 3 0 1 gives conflicts ∷ capacity-10 3 gives good (bytes 4 7 ++ bytes 4 512) ∷ read-10 2 0 1 gives good (zeros 512) ∷ []) (0 ∷ 0 ∷ []) 6 0
+caseJ = caseStill (made (0 ∷ 0 ∷ []) two 6 1 0)
+    (read-10 3 0 1 gives conflicts
+    ∷ capacity-10 3 gives good (bytes 4 7 ++ bytes 4 512)
+    ∷ read-10 2 0 1 gives good (zeros 512) ∷ [])
 
 unfoldable pub caseK : Case
 caseK = caseOf (made (0 ∷ 0 ∷ []) two 0 0 0xFFFF_FFFF)
     (out 3 0 0 0 0x33 gives good []
-    ∷ in-call 3 0 gives good (bytes 4 0 ++ (bytes 4 24 ++ (bytes 8 0x11 ++ (bytes 8 0x22 ++ bytes 8 0x33)))) ∷ []) (0 ∷ 0 ∷ []) 0 0
+    ∷ in-call 3 0 gives good (bytes 4 0 ++ (bytes 4 24 ++ (bytes 8 0x11 ++ (bytes 8 0x22 ++ bytes 8 0x33)))) ∷ [])
+    (made (0 ∷ 0 ∷ []) (places (at 1 0x11 ∷ at 2 0x22 ∷ at 3 0x33 ∷ [])) 0 0 0)
 
+-- the other names the type that stands, and another
 unfoldable pub caseL : Case
-caseL = caseOf (made (0 ∷ 0 ∷ []) two 1 1 0)
+caseL = caseStill (made (0 ∷ 0 ∷ []) two 1 1 0)
     (out 1 2 3 0x11 0 gives refused 7 0x05 0x26 0x04
+    ∷ out 2 2 1 0x22 0 gives good []
     ∷ out 2 2 3 0x22 0 gives good []
-    ∷ in-call 2 1 gives good (bytes 4 0 ++ (bytes 4 16 ++ (bytes 8 0x11 ++ (zeros 5 ++ (1 ∷ zeros 2))))) ∷ []) (0 ∷ 0 ∷ []) 1 0
+    ∷ in-call 2 1 gives good (bytes 4 0 ++ (bytes 4 16 ++ (bytes 8 0x11 ++ (zeros 5 ++ (1 ∷ zeros 2))))) ∷ [])
 
 unfoldable pub cases : List Case
 cases = caseA ∷ caseB ∷ caseC ∷ caseD ∷ caseE ∷ caseF ∷ caseG ∷ caseH ∷ caseI ∷ caseJ ∷ caseK ∷ caseL ∷ []

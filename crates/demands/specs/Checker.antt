@@ -1,47 +1,56 @@
--- What a case is, and when a build meets it.
+-- What a case is, and when a build meets it: all that each call shows is compared, and the whole store in the end.
 -- Assumes nothing.
 use mathlib.Core.Bool.{Bool, true, false, _&&_}
-use mathlib.Core.List.{List, [], _∷_}
+use mathlib.Core.List.{List, [], _∷_, _++_}
 use Prim.Native.Nat.{ℕ}
 use lib.Dec.{eqb}
-use lib.ListN.{length, take}
-use Rattle.fields.specs.Field.{byte}
+use lib.ListN.{length, drop}
 use Rattle.answers.specs.declared.Status.{Status}
 use Rattle.answers.specs.declared.Status.the-variants.{Given, Nothing}
 use Rattle.answers.specs.Answers.{numberOf, statusOf}
-use Rattle.store.specs.Store.{Store, Call, Seen, usable}
+use Rattle.pool.specs.Pool.{Pool}
+use Rattle.rights.specs.declared.Place.{Place}
+use Rattle.rights.specs.declared.Rights.{Rights}
+use Rattle.store.specs.declared.Unit.{Unit}
+use Rattle.store.specs.Store.{Store, Call, Seen}
 use Rattle.demands.specs.History.{Build}
 
 -- ---- what one call must give
 
--- answer number, status, what the sense buffer shows (nothing where it is left), how many bytes return, and those they begin with
+-- answer number, status, the whole sense buffer afterwards, how many bytes return, and the whole data-in buffer afterwards
 pub record Want : Type 0 where
   pub number : ℕ
   pub status : Status
   pub sense : List ℕ
   pub returned : ℕ
-  pub begins : List ℕ
+  pub dataIn : List ℕ
 
--- GOOD, and these bytes return
-unfoldable pub good : List ℕ → Want
-good bs = record { number = 0; status = Given 0x00; sense = []; returned = length bs; begins = bs }
+-- these bytes laid over what was lent
+unfoldable pub over : List ℕ → List ℕ → List ℕ
+over bs lent = bs ++ drop (length bs) lent
 
--- GOOD, and n bytes return that begin so
-unfoldable pub good-long : ℕ → List ℕ → Want
-good-long n bs = record { number = 0; status = Given 0x00; sense = []; returned = n; begins = bs }
+-- GOOD: these bytes return, and sense is as lent
+unfoldable pub good : List ℕ → Call → Want
+good bs c = record { number = 0; status = Given 0x00; sense = c .sense; returned = length bs; dataIn = over bs (c .dataIn) }
 
--- refused with status 02h, and key, ASC, ASCQ in the sense
-unfoldable pub refused : ℕ → ℕ → ℕ → ℕ → Want
+-- not GOOD: these bytes are laid over sense, and data-in is as lent
+unfoldable pub lays : ℕ → Status → List ℕ → Call → Want
+lays number status bs c = record { number = number; status = status; sense = over bs (c .sense); returned = 0; dataIn = c .dataIn }
+
+-- status 02h, and "fixed format: byte 0 70h, byte 2 the key, byte 7 0Ah, bytes 12 and 13 the codes, others 0"
+unfoldable pub refused : ℕ → ℕ → ℕ → ℕ → Call → Want
 refused n key asc ascq =
-    record { number = n; status = Given 0x02; sense = 0x70 ∷ key ∷ 0x0A ∷ asc ∷ ascq ∷ []; returned = 0; begins = [] }
+    lays n (Given 0x02) (0x70 ∷ 0 ∷ key ∷ 0 ∷ 0 ∷ 0 ∷ 0 ∷ 0x0A ∷ 0 ∷ 0 ∷ 0 ∷ 0 ∷ asc ∷ ascq ∷ 0 ∷ 0 ∷ 0 ∷ 0 ∷ [])
 
 -- 10, status 18h
-unfoldable pub conflicts : Want
-conflicts = record { number = 10; status = Given 0x18; sense = []; returned = 0; begins = [] }
+unfoldable pub conflicts : Call → Want
+conflicts = lays 10 (Given 0x18) []
 
 -- 11 or 12, no status
-unfoldable pub no-status : ℕ → Want
-no-status n = record { number = n; status = Nothing; sense = []; returned = 0; begins = [] }
+unfoldable pub no-status : ℕ → Call → Want
+no-status n = lays n Nothing []
+
+-- ---- the comparisons
 
 unfoldable pub same : List ℕ → List ℕ → Bool
 same [] [] = true
@@ -55,45 +64,77 @@ sameStatus (Given m) Nothing = false
 sameStatus Nothing (Given n) = false
 sameStatus Nothing Nothing = true
 
--- bytes 0, 2, 7, 12 and 13 of the sense; where none is wanted, the buffer as lent
-unfoldable pub senseShows : List ℕ → List ℕ → List ℕ → Bool
-senseShows [] lent left = same lent left
-senseShows (w ∷ ws) lent left = same (w ∷ ws) (byte 0 left ∷ byte 2 left ∷ byte 7 left ∷ byte 12 left ∷ byte 13 left ∷ [])
+unfoldable pub samePlaces : List Place → List Place → Bool
+samePlaces [] [] = true
+samePlaces [] (y ∷ ys) = false
+samePlaces (x ∷ xs) [] = false
+samePlaces (x ∷ xs) (y ∷ ys) = eqb (x .nexus) (y .nexus) && (eqb (x .key) (y .key) && samePlaces xs ys)
 
-unfoldable pub met : Want → Call → Seen → Bool
-met w c seen =
-    eqb (numberOf (seen .answer)) (w .number)
-    && sameStatus (statusOf (seen .answer)) (w .status)
-    && senseShows (w .sense) (c .sense) (seen .sense)
-    && eqb (seen .returned) (w .returned)
-    && same (take (length (w .begins)) (seen .dataIn)) (w .begins)
+unfoldable pub sameRights : Rights → Rights → Bool
+sameRights r q =
+    samePlaces (r .places) (q .places) && (eqb (r .kind) (q .kind) && (eqb (r .holder) (q .holder) && eqb (r .generation) (q .generation)))
+
+unfoldable pub sameUnit : Unit → Unit → Bool
+sameUnit u v = eqb (u .capacity) (v .capacity) && sameRights (u .rights) (v .rights)
+
+unfoldable pub samePool : Pool → Pool → Bool
+samePool p q = same (p .owners) (q .owners) && same (p .medium) (q .medium)
+
+-- of what a call shows
+unfoldable pub numberShows : Want → Seen → Bool
+numberShows w x = eqb (numberOf (x .answer)) (w .number)
+
+unfoldable pub statusShows : Want → Seen → Bool
+statusShows w x = sameStatus (statusOf (x .answer)) (w .status)
+
+unfoldable pub senseShows : Want → Seen → Bool
+senseShows w x = same (x .sense) (w .sense)
+
+unfoldable pub returnedShows : Want → Seen → Bool
+returnedShows w x = eqb (x .returned) (w .returned)
+
+unfoldable pub dataShows : Want → Seen → Bool
+dataShows w x = same (x .dataIn) (w .dataIn)
+
+-- of the store in the end with the one wanted: the unit's record, owners, and every byte of the medium
+unfoldable pub ends : Store → Store → Bool
+ends w s = sameUnit (s .unit) (w .unit) && samePool (s .pool) (w .pool)
+
+-- what is compared of each call, and how the store in the end
+pub record Checker : Type 0 where
+  pub shows : List (Want → Seen → Bool)
+  pub ends : Store → Store → Bool
+
+unfoldable pub whole : Checker
+whole = record { shows = numberShows ∷ statusShows ∷ senseShows ∷ returnedShows ∷ dataShows ∷ []; ends = ends }
+
+unfoldable pub met : List (Want → Seen → Bool) → Want → Seen → Bool
+met [] w x = true
+met (p ∷ ps) w x = p w x && met ps w x
 
 -- ---- a case
 
--- a call, and what it must give
+-- a call, and what it must give by what it lends
 infix 68 _gives_
 pub data Expect : Type 0 where
-  _gives_ : Call → Want → Expect
+  _gives_ : Call → (Call → Want) → Expect
 
--- a store, calls on it, and what must stand in the end: owners, type, generation
+-- a store, calls on it, and the store that must stand in the end
 pub record Case : Type 0 where
   pub start : Store
   pub calls : List Expect
-  pub owners : List ℕ
-  pub kind : ℕ
-  pub generation : ℕ
+  pub end : Store
 
-unfoldable pub ends : Case → Store → Bool
-ends k s =
-    same (s .pool .owners) (k .owners) && eqb (s .unit .rights .kind) (k .kind) && eqb (s .unit .rights .generation) (k .generation) && usable s
+unfoldable pub run : Checker → Build → Store → Store → List Expect → Bool
+run k f end s [] = k .ends end s
+run k f end s ((c gives w) ∷ es) = met (k .shows) (w c) (f s c .seen) && run k f end (f s c .store) es
 
-unfoldable pub run : Build → Case → Store → List Expect → Bool
-run f k s [] = ends k s
-run f k s ((c gives w) ∷ es) = met w c (f s c .seen) && run f k (f s c .store) es
+unfoldable pub passedBy : Checker → Build → Case → Bool
+passedBy k f x = run k f (x .end) (x .start) (x .calls)
 
 unfoldable pub passed : Build → Case → Bool
-passed f k = run f k (k .start) (k .calls)
+passed f x = passedBy whole f x
 
 unfoldable pub allPassed : Build → List Case → Bool
 allPassed f [] = true
-allPassed f (k ∷ ks) = passed f k && allPassed f ks
+allPassed f (x ∷ xs) = passed f x && allPassed f xs

@@ -18,24 +18,29 @@ use Rattle.descriptors.specs.Descriptors.{descriptorAt, considered}
 use Rattle.rights.specs.Conflict.{conflict}
 use Rattle.forms.specs.declared.Move.{Move}
 use Rattle.forms.specs.declared.Move.the-variants.{Read, Write, Unmap}
+use Rattle.forms.specs.declared.Command.{Command}
 use Rattle.forms.specs.declared.Command.the-variants.{Moves}
 use Rattle.forms.specs.declared.Entry.{Entry}
 use Rattle.forms.specs.declared.Entry.the-variants.{Listed, Unlisted}
 use Rattle.forms.specs.declared.Request.{Request}
 use Rattle.forms.specs.Forms.{entryOf, asks, askedOf, countIn, listLengthIn}
 use Rattle.forms.specs.Tests.{codeRows, lengthRows, fieldRows}
-use Rattle.store.specs.Store.{Store, Call, Seen, usable}
+use Rattle.store.specs.declared.Unit.{Unit}
+use Rattle.store.specs.Store.{Store, Call, usable}
 use Rattle.store.specs.Move.{access}
 use Rattle.store.specs.Step.{callRows, step}
-use Rattle.demands.specs.History.{Build, after}
 
 -- ---- a call on the blocks
 
--- it is a READ, a WRITE or an UNMAP, in whichever of its forms; and what it asks for
-pub record Asks (m : Move) (c : Call) : Type 0 where
+-- it is for this command, in whichever of its forms; and what it asks for
+pub record AsksFor (k : Command) (c : Call) : Type 0 where
   pub request : Request
   pub is : askedOf (c .cdb) ≡ asks request
-  pub command : request .command ≡ Moves m
+  pub command : request .command ≡ k
+
+-- it is a READ, a WRITE or an UNMAP
+abbrev pub Asks : Move → Call → Type 0
+Asks m c = AsksFor (Moves m) c
 
 -- the first block that is asked for; `countIn` says how many there are
 abbrev pub addressIn : Request → ℕ
@@ -73,6 +78,10 @@ Room s q = unmapped (s .pool .owners) (addressIn q) (countIn q) ≤ free (s .poo
 -- b is none of the n blocks from a on
 abbrev pub Outside : ℕ → ℕ → ℕ → Type 0
 Outside a n b = a ≤ b → a + n ≤ b
+
+-- is b one of them
+unfoldable pub inRange : ℕ → ℕ → ℕ → Bool
+inRange a n b = leb a b && ltb b (a + n)
 
 -- two requests name the same blocks
 pub record SameRange (p q : Request) : Type 0 where
@@ -148,7 +157,7 @@ unmapEach p (d ∷ ds) = unmapEach (unmapBlocks p (d .address .0) (d .count)) ds
 
 -- does a descriptor cover the block b
 unfoldable pub covers : Descriptor → ℕ → Bool
-covers d b = leb (d .address .0) b && ltb b (d .address .0 + d .count)
+covers d b = inRange (d .address .0) (d .count) b
 
 -- does one of them
 unfoldable pub names : List Descriptor → ℕ → Bool
@@ -162,9 +171,7 @@ pub record Same (s t : Store) : Type 0 where
   pub unit : s .unit ≡ t .unit
   pub pool : Alike (s .pool) (t .pool)
 
--- ---- histories
+-- ---- a store with nothing in it, and all that everybody may know
 
--- all that the callers see, call by call
-unfoldable pub seenAll : Build → Store → List Call → List Seen
-seenAll f s [] = []
-seenAll f s (c ∷ cs) = f s c .seen ∷ seenAll f (after f s c) cs
+unfoldable pub plain : Unit → Store
+plain u = record { unit = u; pool = record { owners = zeros 1; medium = zeros 512 } }

@@ -17,12 +17,13 @@ use Rattle.pool.specs.Valid.{checked}
 use Rattle.forms.specs.declared.Move.{Move}
 use Rattle.forms.specs.declared.Move.the-variants.{Read, Write, Unmap}
 use Rattle.forms.specs.Forms.{countIn}
+use Rattle.store.specs.declared.Unit.{Unit}
 use Rattle.store.specs.Store.{Store, Call, usable, seenOf}
 use Rattle.store.specs.Fresh.{freshStore}
 use Rattle.store.specs.Step.{step}
-use Rattle.demands.specs.History.{Build, after, isOut, isShutOut, watched, heard}
+use Rattle.demands.specs.History.{Event, call, Machine, Build, after, machine, isOut, isShutOut, isSomebody, seenAll, watchedOn, heardOn, replay, watched, heard}
 use Rattle.demands.specs.Checker.{allPassed}
-use Rattle.demands.specs.Contents.{Asks, IsGood, SameRange, Apart, descriptorsOf, names, Same, seenAll, isTransfer, SaysSame}
+use Rattle.demands.specs.Contents.{Asks, IsGood, SameRange, Apart, descriptorsOf, names, Same, isTransfer, SaysSame}
 use Rattle.demands.specs.Cases.{cases}
 use Rattle.demands.specs.Generation.{generation, raising}
 
@@ -74,7 +75,7 @@ pub record Storage : Type 0 where
   pub fresh-reads-zeros : (capacity slots : ℕ) (medium : List ℕ) (r : Call) (a : Asks Read r) → IsGood (freshStore capacity slots medium) r
       → step (freshStore capacity slots medium) r .seen ≡ seenOf Good (zeros (512 * countIn (a .request))) r
   -- slots do not matter: stores that agree on the unit's record, on contents and on free slots answer alike for ever
-  pub slots-hidden : (s t : Store) → T (usable s) → T (usable t) → Same s t → (cs : List Call) → seenAll step s cs ≡ seenAll step t cs
+  pub slots-hidden : (s t : Store) → T (usable s) → T (usable t) → Same s t → (es : List Event) → seenAll (machine step) s es ≡ seenAll (machine step) t es
   -- "The shared fact for 10 and 16 byte forms is proved once over field width."
   pub forms-agree : (m : Move) → T (isTransfer m) → (s : Store) (c d : Call) (a : Asks m c) (b : Asks m d) → SaysSame a b → step s c ≡ step s d
   -- "no two slots name one block": a map with a slot beyond the capacity or a clash is refused, and every usable store's passes its check
@@ -93,3 +94,14 @@ pub record Demand3 (f : Build) : Type 0 where
   pub still : (s : Store) (c : Call) → T (not (isOut c)) → T (isShutOut s c) → after f s c ≡ s
   -- "and a reservation-out call never changes a block or a mapping."
   pub out-pool : (s : Store) (c : Call) → T (isOut c) → after f s c .pool ≡ s .pool
+
+-- The first sentences of demand 3, of any machine and of all that can happen to it; `plain` makes a state of what everybody may know alone.
+pub record Secrecy (m : Machine) (plain : Unit → m .State) : Type 0 where
+  -- what is heard is a function of what everybody may know and of the calls that are watched: each is answered as if nothing were stored
+  pub heard-is : (s : m .State) (es : List Event) → T (m .usable s) → heardOn m s es ≡ replay m plain (m .unit s) (watchedOn m s es)
+  -- so two histories that differ in anything else are heard alike
+  pub secret : (s t : m .State) (es ds : List Event) → T (m .usable s) → T (m .usable t) → m .unit s ≡ m .unit t
+      → watchedOn m s es ≡ watchedOn m t ds → heardOn m s es ≡ heardOn m t ds
+  -- a nexus above 15 is nobody: what it sees is a function of its call alone, and it changes nothing
+  pub nobody-learns : (s t : m .State) (c : Call) → T (not (isSomebody c)) → m .seen s c ≡ m .seen t c
+  pub nobody-changes : (s : m .State) (c : Call) → T (not (isSomebody c)) → m .next s (call c) ≡ s

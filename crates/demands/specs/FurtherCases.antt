@@ -1,12 +1,16 @@
--- Further cases: the easy slips, counts, registrations, UNMAP lists and fields.
+-- Further cases: the easy slips, counts, registrations, UNMAP lists, fields, flags, types, what is told, and lent buffers.
 -- Assumes nothing.
 use mathlib.Core.List.{List, [], _∷_, _++_}
+use Prim.Native.Nat.{ℕ, zero, suc, _-_}
+use lib.ListN.{replicate}
 use Rattle.fields.specs.Bytes.{zeros}
 use Rattle.fields.specs.Field.{bytes}
 use Rattle.rights.specs.Places.{unused}
-use Rattle.demands.specs.Checker.{good, refused, conflicts, no-status, Case, _gives_}
-use Rattle.demands.specs.Bench.{block, at, two, eight, made, call, read-10, read-16, write-10, write-16, unmap-list, descriptor, out, in-call}
-use Rattle.demands.specs.Cases.{caseOf, caseNew}
+use Rattle.store.specs.Fresh.{freshStore, freshUnit}
+use Rattle.store.specs.Store.{Call}
+use Rattle.demands.specs.Checker.{good, refused, conflicts, no-status, Case, Want, _gives_}
+use Rattle.demands.specs.Bench.{block, new, at, places, two, eight, made, made-of, lent, call, ready, capacity-16, cdb-10, cdb-16, read-10, read-16, write-10, write-16, unmap-list, descriptor, out, in-call}
+use Rattle.demands.specs.Cases.{caseOf, caseStill, caseNew}
 
 -- "Count 128 passes, 129: 2": with no data-out, 128 comes as far as the 12
 unfoldable pub caseCounts : Case
@@ -27,7 +31,8 @@ caseNinth = caseOf (made (0 ∷ 0 ∷ []) eight 0 0 5)
     ∷ out 9 0 0 0x99 0x99 gives conflicts
     ∷ out 9 0 0 0 0 gives good []
     ∷ out 9 6 0 0x77 0 gives good []
-    ∷ out 8 0 0 0x88 0x80 gives good [] ∷ []) (0 ∷ 0 ∷ []) 0 6
+    ∷ out 8 0 0 0x88 0x80 gives good [] ∷ [])
+    (made (0 ∷ 0 ∷ []) (at 1 0x11 ∷ at 2 0x22 ∷ at 3 0x33 ∷ at 4 0x44 ∷ at 5 0x55 ∷ at 6 0x66 ∷ at 7 0x77 ∷ at 8 0x80 ∷ []) 0 0 6)
 
 -- slip 3: RESERVE, RELEASE and refusals leave the generation; REGISTER, PREEMPT and CLEAR raise it
 unfoldable pub caseGeneration : Case
@@ -45,7 +50,8 @@ caseGeneration = caseOf (made (0 ∷ 0 ∷ []) two 0 0 7)
     ∷ in-call 1 1 gives good (bytes 4 9 ++ (bytes 4 16 ++ (bytes 8 0x22 ++ (zeros 5 ++ (6 ∷ zeros 2)))))
     ∷ read-10 1 0 1 gives conflicts
     ∷ out 3 3 0 0x33 0 gives good []
-    ∷ in-call 1 1 gives good (bytes 4 10 ++ bytes 4 0) ∷ []) (0 ∷ 0 ∷ []) 0 10
+    ∷ in-call 1 1 gives good (bytes 4 10 ++ bytes 4 0) ∷ [])
+    (made (0 ∷ 0 ∷ []) (places []) 0 0 10)
 
 -- a reservation ends when its holder, or the last registrant, is gone
 unfoldable pub caseGone : Case
@@ -56,19 +62,21 @@ caseGone =
     ∷ out 1 0 0 0x11 0 gives good []
     ∷ read-10 1 0 1 gives conflicts
     ∷ out 2 6 0 0 0 gives good []
-    ∷ read-10 1 0 1 gives good (zeros 512) ∷ []) (0 ∷ 0 ∷ []) 0 2
+    ∷ read-10 1 0 1 gives good (zeros 512) ∷ [])
+    (made (0 ∷ 0 ∷ []) (places []) 0 0 2)
 
 -- PREEMPT of the holder's key spares the sender, who takes over; of any other key it removes the sender too
 unfoldable pub caseShared : Case
 caseShared =
-    caseOf (made (0 ∷ 0 ∷ []) (at 1 0x11 ∷ at 2 0x11 ∷ at 3 0x22 ∷ unused ∷ unused ∷ unused ∷ unused ∷ unused ∷ []) 3 1 0)
+    caseOf (made (0 ∷ 0 ∷ []) (places (at 1 0x11 ∷ at 2 0x11 ∷ at 3 0x22 ∷ [])) 3 1 0)
     (out 2 4 6 0x11 0x11 gives good []
     ∷ in-call 1 0 gives good (bytes 4 1 ++ (bytes 4 16 ++ (bytes 8 0x11 ++ bytes 8 0x22)))
     ∷ read-10 1 0 1 gives conflicts
     ∷ out 3 4 6 0x22 0x22 gives good []
     ∷ in-call 1 0 gives good (bytes 4 2 ++ (bytes 4 8 ++ bytes 8 0x11))
     ∷ read-10 3 0 1 gives conflicts
-    ∷ read-10 2 0 1 gives good (zeros 512) ∷ []) (0 ∷ 0 ∷ []) 6 2
+    ∷ read-10 2 0 1 gives good (zeros 512) ∷ [])
+    (made (0 ∷ 0 ∷ []) (places (unused ∷ at 2 0x11 ∷ [])) 6 2 2)
 
 -- a mapped block keeps its slot and its bytes, and a new one gets the slot that is free
 unfoldable pub caseSlots : Case
@@ -79,7 +87,8 @@ caseSlots =
     ∷ write-10 0 4 1 (block 0xC0) gives good []
     ∷ read-10 0 0 1 gives good (block 0xB0)
     ∷ read-10 0 4 1 gives good (block 0xC0)
-    ∷ write-10 0 1 1 (block 0xD0) gives refused 8 0x07 0x27 0x07 ∷ []) (5 ∷ 1 ∷ []) 0 0
+    ∷ write-10 0 1 1 (block 0xD0) gives refused 8 0x07 0x27 0x07 ∷ [])
+    (made-of (5 ∷ 1 ∷ []) (block 0xC0 ++ block 0xB0) two 0 0 0)
 
 -- UNMAP: list length 0, 1 to 7, longer than the data; 17 descriptors; a second one past the end, before which nothing is unmapped; two that overlap
 unfoldable pub caseUnmap : Case
@@ -92,12 +101,25 @@ caseUnmap =
     ∷ unmap-list 40 (bytes 2 38 ++ (bytes 2 32 ++ (zeros 4 ++ (descriptor 0 3 ++ descriptor 8 1)))) gives refused 3 0x05 0x21 0x00
     ∷ read-10 0 0 1 gives good (block 0x10)
     ∷ unmap-list 40 (bytes 2 38 ++ (bytes 2 32 ++ (zeros 4 ++ (descriptor 2 1 ++ descriptor 1 3)))) gives good []
-    ∷ read-10 0 2 1 gives good (zeros 512) ∷ []) (1 ∷ 0 ∷ []) 0 0
+    ∷ read-10 0 2 1 gives good (zeros 512) ∷ [])
+    (made (1 ∷ 0 ∷ []) two 0 0 0)
+
+-- "Considered are floor(min(that length, list length - 8) / 16); an incomplete last one is ignored": one by either length, 16; count 0 at the end
+unfoldable pub caseConsidered : Case
+caseConsidered =
+    caseOf (made (1 ∷ 3 ∷ []) two 0 0 0)
+    (unmap-list 32 (bytes 2 30 ++ (bytes 2 24 ++ (zeros 4 ++ (descriptor 0 1 ++ bytes 8 2)))) gives good []
+    ∷ unmap-list 40 (bytes 2 38 ++ (bytes 2 16 ++ (zeros 4 ++ (descriptor 5 1 ++ descriptor 2 1)))) gives good []
+    ∷ unmap-list 24 (bytes 2 38 ++ (bytes 2 32 ++ (zeros 4 ++ (descriptor 5 1 ++ descriptor 2 1)))) gives good []
+    ∷ unmap-list 264 (bytes 2 262 ++ (bytes 2 256 ++ zeros 260)) gives good []
+    ∷ unmap-list 24 (bytes 2 22 ++ (bytes 2 16 ++ (zeros 4 ++ descriptor 8 0))) gives good []
+    ∷ unmap-list 24 (bytes 2 22 ++ (bytes 2 16 ++ (zeros 4 ++ descriptor 9 0))) gives refused 3 0x05 0x21 0x00 ∷ [])
+    (made (0 ∷ 3 ∷ []) two 0 0 0)
 
 -- the tests before a command's own, and those of PERSISTENT RESERVE OUT
 unfoldable pub caseFields : Case
 caseFields =
-    caseOf (made (0 ∷ 0 ∷ []) two 0 0 0)
+    caseStill (made (0 ∷ 0 ∷ []) two 0 0 0)
     (call 16 (zeros 6) [] gives no-status 11
     ∷ call 0 [] [] gives no-status 11
     ∷ call 0 (0x01 ∷ []) [] gives refused 1 0x05 0x20 0x00
@@ -115,7 +137,156 @@ caseFields =
     ∷ call 1 (0x5F ∷ 0 ∷ 0 ∷ 0 ∷ 0 ∷ (bytes 4 25 ++ (0 ∷ []))) (zeros 25) gives refused 4 0x05 0x1A 0x00
     ∷ call 1 (0x5F ∷ 0 ∷ 0 ∷ 0 ∷ 0 ∷ (bytes 4 24 ++ (0 ∷ []))) (zeros 23) gives no-status 12
     ∷ call 1 (0x5F ∷ 0 ∷ 0 ∷ 0 ∷ 0 ∷ (bytes 4 24 ++ (0 ∷ []))) (zeros 20 ++ (0x04 ∷ zeros 3)) gives refused 5 0x05 0x26 0x00 ∷ [])
-    (0 ∷ 0 ∷ []) 0 0
+
+-- the first 15 bytes of READ CAPACITY(16): byte 14 is C0h
+unfoldable pub capacityTold : List ℕ
+capacityTold = bytes 8 7 ++ (bytes 4 512 ++ (0 ∷ 0 ∷ 0xC0 ∷ []))
+
+unfoldable pub inquiryTold : List ℕ
+inquiryTold =
+    0x00 ∷ 0x00 ∷ 0x06 ∷ 0x02 ∷ 0x1F ∷ 0x00 ∷ 0x00 ∷ 0x00
+    ∷ 0x52 ∷ 0x49 ∷ 0x44 ∷ 0x47 ∷ 0x45 ∷ 0x20 ∷ 0x20 ∷ 0x20
+    ∷ 0x4C ∷ 0x4F ∷ 0x41 ∷ 0x44 ∷ 0x20 ∷ 0x4C ∷ 0x4F ∷ 0x47 ∷ 0x20 ∷ 0x53 ∷ 0x54 ∷ 0x4F ∷ 0x52 ∷ 0x45 ∷ 0x20 ∷ 0x20
+    ∷ 0x30 ∷ 0x31 ∷ 0x30 ∷ 0x30 ∷ []
+
+-- what everybody is told, whole and cut: "length fields inside are not shortened"
+unfoldable pub caseTold : Case
+caseTold = caseStill (made (0 ∷ 0 ∷ []) two 3 1 9)
+    (ready 3 gives good []
+    ∷ call 3 (0x12 ∷ 0 ∷ 0 ∷ 0 ∷ 36 ∷ 0 ∷ []) [] gives good inquiryTold
+    ∷ call 3 (0x12 ∷ 0 ∷ 0 ∷ 1 ∷ 0 ∷ 0 ∷ []) [] gives good inquiryTold
+    ∷ call 3 (0x12 ∷ 0 ∷ 0 ∷ 0 ∷ 0 ∷ 0 ∷ []) [] gives good []
+    ∷ capacity-16 3 gives good (capacityTold ++ zeros 17)
+    ∷ call 3 (0x9E ∷ 0x10 ∷ (zeros 8 ++ (bytes 4 15 ++ zeros 2))) [] gives good capacityTold
+    ∷ call 3 (0x5E ∷ 0 ∷ (zeros 5 ++ (bytes 2 12 ++ (0 ∷ [])))) [] gives good (bytes 4 9 ++ (bytes 4 16 ++ bytes 4 0))
+    ∷ call 3 (0x5E ∷ 1 ∷ (zeros 5 ++ (bytes 2 22 ++ (0 ∷ [])))) [] gives good (bytes 4 9 ++ (bytes 4 16 ++ (bytes 8 0x11 ++ (zeros 5 ++ (3 ∷ []))))) ∷ [])
+
+-- a CDB of n bytes with this code, byte 1 and control byte
+unfoldable pub controlled : ℕ → ℕ → ℕ → ℕ → Call
+controlled n code first control = call 0 (code ∷ first ∷ (zeros (n - 3) ++ (control ∷ []))) []
+
+unfoldable pub wrongField : Call → Want
+wrongField = refused 2 0x05 0x24 0x00
+
+-- "control byte bit 2 (NACA) set, for all commands", in each length of CDB; its other bits are ignored
+unfoldable pub caseControl : Case
+caseControl = caseNew 8
+    (controlled 6 0x00 0 0x04 gives wrongField
+    ∷ controlled 6 0x12 0 0x04 gives wrongField
+    ∷ controlled 10 0x25 0 0x04 gives wrongField
+    ∷ controlled 10 0x28 0 0x04 gives wrongField
+    ∷ controlled 10 0x2A 0 0x04 gives wrongField
+    ∷ controlled 10 0x42 0 0x04 gives wrongField
+    ∷ controlled 10 0x5E 0 0x04 gives wrongField
+    ∷ controlled 10 0x5F 0 0x04 gives wrongField
+    ∷ controlled 16 0x88 0 0x04 gives wrongField
+    ∷ controlled 16 0x8A 0 0x04 gives wrongField
+    ∷ controlled 16 0x9E 0x10 0x04 gives wrongField
+    ∷ controlled 6 0x00 0 0xFB gives good []
+    ∷ controlled 10 0x28 0 0xFB gives good []
+    ∷ controlled 16 0x88 0 0xFB gives good [] ∷ [])
+
+-- byte 1: UNMAP's bit 0 (ANCHOR), bits 7-5 of READ and WRITE, and the bits that are ignored
+unfoldable pub caseFirstByte : Case
+caseFirstByte = caseNew 8
+    (controlled 10 0x42 0x01 0 gives wrongField
+    ∷ controlled 10 0x42 0xFE 0 gives good []
+    ∷ controlled 10 0x28 0x20 0 gives wrongField
+    ∷ controlled 10 0x28 0x40 0 gives wrongField
+    ∷ controlled 10 0x28 0x80 0 gives wrongField
+    ∷ controlled 10 0x2A 0x20 0 gives wrongField
+    ∷ controlled 10 0x2A 0x40 0 gives wrongField
+    ∷ controlled 10 0x2A 0x80 0 gives wrongField
+    ∷ controlled 16 0x88 0x20 0 gives wrongField
+    ∷ controlled 16 0x88 0x40 0 gives wrongField
+    ∷ controlled 16 0x88 0x80 0 gives wrongField
+    ∷ controlled 16 0x8A 0x20 0 gives wrongField
+    ∷ controlled 16 0x8A 0x40 0 gives wrongField
+    ∷ controlled 16 0x8A 0x80 0 gives wrongField
+    ∷ controlled 10 0x28 0x1F 0 gives good []
+    ∷ controlled 10 0x2A 0x1F 0 gives good []
+    ∷ controlled 16 0x88 0x1F 0 gives good []
+    ∷ controlled 16 0x8A 0x1F 0 gives good [] ∷ [])
+
+-- nexus 1's key in PERSISTENT RESERVE OUT with this action, type and byte 20 of the list
+unfoldable pub flagged : ℕ → ℕ → ℕ → Call
+flagged action type flags =
+    call 1 (0x5F ∷ action ∷ type ∷ 0 ∷ 0 ∷ (bytes 4 24 ++ (0 ∷ []))) (bytes 8 0x11 ++ (bytes 8 0x11 ++ (zeros 4 ++ (flags ∷ zeros 3))))
+
+-- "byte 20 bits 3, 2, 0 any set in actions 0 and 6: 5"
+unfoldable pub caseFlags : Case
+caseFlags = caseOf (made (0 ∷ 0 ∷ []) two 0 0 0)
+    (flagged 0 0 0x08 gives refused 5 0x05 0x26 0x00
+    ∷ flagged 0 0 0x04 gives refused 5 0x05 0x26 0x00
+    ∷ flagged 0 0 0x01 gives refused 5 0x05 0x26 0x00
+    ∷ flagged 0 0 0xF2 gives good []
+    ∷ flagged 6 0 0x08 gives refused 5 0x05 0x26 0x00
+    ∷ flagged 6 0 0x04 gives refused 5 0x05 0x26 0x00
+    ∷ flagged 6 0 0x01 gives refused 5 0x05 0x26 0x00
+    ∷ flagged 6 0 0xF2 gives good []
+    ∷ flagged 1 3 0x0D gives good []
+    ∷ flagged 4 6 0x0D gives good []
+    ∷ flagged 2 6 0x0D gives good []
+    ∷ flagged 3 0 0x0D gives good [] ∷ [])
+    (made (0 ∷ 0 ∷ []) (places []) 0 0 4)
+
+-- "for 1, 2, 4 … a scope not 0 or a type outside the six: 2"; in the others byte 2 is ignored
+unfoldable pub caseTypes : Case
+caseTypes = caseOf (made (0 ∷ 0 ∷ []) two 1 1 0)
+    (out 1 2 0x00 0x11 0 gives wrongField
+    ∷ out 1 2 0x02 0x11 0 gives wrongField
+    ∷ out 1 2 0x04 0x11 0 gives wrongField
+    ∷ out 1 2 0x09 0x11 0 gives wrongField
+    ∷ out 1 2 0x21 0x11 0 gives wrongField
+    ∷ out 1 1 0x00 0x11 0 gives wrongField
+    ∷ out 1 1 0x0F 0x11 0 gives wrongField
+    ∷ out 1 4 0x00 0x11 0x22 gives wrongField
+    ∷ out 1 4 0x81 0x11 0x22 gives wrongField
+    ∷ out 1 0 0x32 0x11 0x11 gives good []
+    ∷ out 1 6 0x32 0 0x11 gives good []
+    ∷ out 1 2 0x01 0x11 0 gives good []
+    ∷ out 1 3 0x32 0x11 0 gives good [] ∷ [])
+    (made (0 ∷ 0 ∷ []) (places []) 0 0 3)
+
+-- buffers that just suffice, and those that do not: 12 by data-in and data-out, 11 by sense
+unfoldable pub caseLent : Case
+caseLent = caseOf (new 8)
+    (lent 0 17 0 (zeros 6) [] gives no-status 11
+    ∷ lent 0 18 0 (zeros 6) [] gives good []
+    ∷ lent 0 18 0 (zeros 5 ++ (4 ∷ [])) [] gives wrongField
+    ∷ lent 35 20 0 (0x12 ∷ 0 ∷ 0 ∷ 0 ∷ 36 ∷ 0 ∷ []) [] gives no-status 12
+    ∷ lent 35 20 0 (0x12 ∷ 0 ∷ 0 ∷ 0 ∷ 5 ∷ 0 ∷ []) [] gives good (0x00 ∷ 0x00 ∷ 0x06 ∷ 0x02 ∷ 0x1F ∷ [])
+    ∷ lent 7 20 0 (0x25 ∷ zeros 9) [] gives no-status 12
+    ∷ lent 31 20 0 (0x9E ∷ 0x10 ∷ (zeros 8 ++ (bytes 4 32 ++ zeros 2))) [] gives no-status 12
+    ∷ lent 7 20 0 (0x5E ∷ 0 ∷ (zeros 5 ++ (bytes 2 256 ++ (0 ∷ [])))) [] gives no-status 12
+    ∷ lent 7 20 0 (0x5E ∷ 1 ∷ (zeros 5 ++ (bytes 2 256 ++ (0 ∷ [])))) [] gives no-status 12
+    ∷ lent 511 20 0 (cdb-10 0x28 7 1) [] gives no-status 12
+    ∷ lent 512 20 0 (cdb-16 0x88 7 1) [] gives good (zeros 512)
+    ∷ write-10 0 0 2 (block 0xB0 ++ replicate 511 0xC0) gives no-status 12
+    ∷ write-10 0 0 1 (block 0xB0 ++ (0xC0 ∷ [])) gives good [] ∷ [])
+    (made-of (1 ∷ 0 ∷ []) (block 0xB0 ++ block 0x20) (places []) 0 0 0)
+
+-- "Count 128 passes": 128 blocks are read, lent one byte more than they are
+unfoldable pub caseMost : Case
+caseMost = caseNew 128 (lent 65537 20 0 (cdb-10 0x28 0 128) [] gives good (zeros 65536) ∷ [])
+
+-- n numbers from x on
+unfoldable pub rising : ℕ → ℕ → List ℕ
+rising x zero = []
+rising x (suc n) = x ∷ rising (suc x) n
+
+unfoldable pub blocks : List ℕ → List ℕ
+blocks [] = []
+blocks (x ∷ xs) = block x ++ blocks xs
+
+-- and 128 are written, into as many slots. Not one of the list: the checker computes all of it, but the 65,536 bytes in the slots take it half a
+-- minute, so that CasesPass has all but them compared (`most-written-passes`)
+unfoldable pub caseMostWritten : Case
+caseMostWritten = caseOf (freshStore 128 128 (replicate 65536 0xEE))
+    (write-10 0 0 128 (blocks (rising 1 128)) gives good [] ∷ [])
+    (record { unit = freshUnit 128; pool = record { owners = rising 1 128; medium = blocks (rising 1 128) } })
 
 unfoldable pub furtherCases : List Case
-furtherCases = caseCounts ∷ caseNinth ∷ caseGeneration ∷ caseGone ∷ caseShared ∷ caseSlots ∷ caseUnmap ∷ caseFields ∷ []
+furtherCases =
+    caseCounts ∷ caseNinth ∷ caseGeneration ∷ caseGone ∷ caseShared ∷ caseSlots ∷ caseUnmap ∷ caseConsidered ∷ caseFields
+    ∷ caseTold ∷ caseControl ∷ caseFirstByte ∷ caseFlags ∷ caseTypes ∷ caseLent ∷ caseMost ∷ []

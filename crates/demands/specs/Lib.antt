@@ -3,8 +3,15 @@ pub mod Checker
 pub mod Bench
 pub mod Cases
 pub mod FurtherCases
+pub mod Comparisons
 pub mod Generation
 pub mod Useless
 pub mod Witness
 pub mod Contents
 pub mod Demands
+pub mod AtC
+pub mod FromFresh
+pub mod Reservations
+pub mod Telling
+pub mod WrongBuilds
+pub mod Proved

@@ -1,3 +1,4 @@
 pub mod InterfaceLaws
 pub mod Said
 pub mod Lent
+pub mod Only

@@ -22,15 +22,15 @@ use Rattle.rights.proofs.DecisionLaws.{later-good}
 
 -- ---- what validity says of places
 
-isOf-used : (n : ℕ) (p : Place) → T (isOf n p) → T (used p)
+pub isOf-used : (n : ℕ) (p : Place) → T (isOf n p) → T (used p)
 unfolding isOf
 isOf-used n p t = and-l (used p) (eqb (p .nexus) n) t
 
-isOf-nexus : (n : ℕ) (p : Place) → T (isOf n p) → p .nexus ≡ n
+pub isOf-nexus : (n : ℕ) (p : Place) → T (isOf n p) → p .nexus ≡ n
 unfolding isOf
 isOf-nexus n p t = eqb→eq (p .nexus) n (and-r (used p) (eqb (p .nexus) n) t)
 
-isOf-of : (n : ℕ) (p : Place) → T (used p) → p .nexus ≡ n → T (isOf n p)
+pub isOf-of : (n : ℕ) (p : Place) → T (used p) → p .nexus ≡ n → T (isOf n p)
 unfolding isOf
 isOf-of n p u e = both (used p) (eqb (p .nexus) n) u (rw e (eqb-refl n))
 
@@ -48,13 +48,13 @@ module _ (p : Place) (ps : List Place) where
   apart-ok t =
       and-l (placeOk p) (not (used p && registered (p .nexus) ps)) (and-l (placeOk p && not (used p && registered (p .nexus) ps)) (placesApart ps) t)
 
-  apart-others : T (placesApart (p ∷ ps)) → T (used p) → T (not (registered (p .nexus) ps))
+  pub apart-others : T (placesApart (p ∷ ps)) → T (used p) → T (not (registered (p .nexus) ps))
   unfolding placesApart
   apart-others t u =
       nand-rest (used p) (registered (p .nexus) ps) u
       (and-r (placeOk p) (not (used p && registered (p .nexus) ps)) (and-l (placeOk p && not (used p && registered (p .nexus) ps)) (placesApart ps) t))
 
-  apart-rest : T (placesApart (p ∷ ps)) → T (placesApart ps)
+  pub apart-rest : T (placesApart (p ∷ ps)) → T (placesApart ps)
   unfolding placesApart
   apart-rest t = and-r (placeOk p && not (used p && registered (p .nexus) ps)) (placesApart ps) t
 
@@ -69,7 +69,7 @@ places-eight : (ps : List Place) → T (placesOk ps) → T (eqb (length ps) 8)
 unfolding placesOk
 places-eight ps t = and-l (eqb (length ps) 8) (placesApart ps) t
 
-places-apart : (ps : List Place) → T (placesOk ps) → T (placesApart ps)
+pub places-apart : (ps : List Place) → T (placesOk ps) → T (placesApart ps)
 unfolding placesOk
 places-apart ps t = and-r (eqb (length ps) 8) (placesApart ps) t
 
@@ -80,10 +80,10 @@ places-of ps s t = both (eqb (length ps) 8) (placesApart ps) s t
 -- ---- registrations that only go, or change their keys
 
 -- q is what became of p: if it is used, p was, by the same nexus
-record Thin (p q : Place) : Type 0 where
-  was : T (used q) → T (used p)
-  who : T (used q) → q .nexus ≡ p .nexus
-  ok : T (placeOk p) → T (placeOk q)
+pub record Thin (p q : Place) : Type 0 where
+  pub was : T (used q) → T (used p)
+  pub who : T (used q) → q .nexus ≡ p .nexus
+  pub ok : T (placeOk p) → T (placeOk q)
 
 thin-unused : (p : Place) → Thin p unused
 unfolding used placeOk
@@ -105,11 +105,11 @@ thin-key k p t h = record {
 }
 
 module _ (g : Place → Place) (thin : (p : Place) → Thin p (g p)) where
-  thin-isOf : (m : ℕ) (p : Place) → T (isOf m (g p)) → T (isOf m p)
+  pub thin-isOf : (m : ℕ) (p : Place) → T (isOf m (g p)) → T (isOf m p)
   thin-isOf m p t =
       isOf-of m p (thin p .was (isOf-used m (g p) t)) (sym (thin p .who (isOf-used m (g p) t)) ∙ isOf-nexus m (g p) t)
 
-  thin-registered : (m : ℕ) (ps : List Place) → T (registered m (map g ps)) → T (registered m ps)
+  pub thin-registered : (m : ℕ) (ps : List Place) → T (registered m (map g ps)) → T (registered m ps)
   unfolding registered
   thin-registered m [] t = t
   thin-registered m (p ∷ ps) t =
@@ -126,14 +126,14 @@ module _ (g : Place → Place) (thin : (p : Place) → Thin p (g p)) where
   thin-places : (ps : List Place) → T (placesOk ps) → T (placesOk (map g ps))
   thin-places ps t = places-of (map g ps) (rw length-map (places-eight ps t)) (thin-apart ps (places-apart ps t))
 
-rekeyed-thin : (n k : ℕ) (p : Place) → Thin p (rekeyed n k p)
+pub rekeyed-thin : (n k : ℕ) (p : Place) → Thin p (rekeyed n k p)
 unfolding rekeyed
 rekeyed-thin n k p =
     by-test (isOf n p) (λ b. Thin p (cond b (cond (eqb k 0) unused (withKey p k)) p))
     (λ t. by-test (eqb k 0) (λ z. Thin p (cond z unused (withKey p k))) (λ z. thin-unused p) (λ z. thin-key k p (isOf-used n p t) z))
     (λ t. thin-same p)
 
-without-thin : (s : Spared) (k : ℕ) (p : Place) → Thin p (without s k p)
+pub without-thin : (s : Spared) (k : ℕ) (p : Place) → Thin p (without s k p)
 unfolding without
 without-thin s k p =
     by-test (eqb (p .key) k && not (spares s p)) (λ b. Thin p (cond b unused p)) (λ t. thin-unused p) (λ t. thin-same p)
@@ -178,7 +178,7 @@ module _ (n k : ℕ) (small : T (leb n 15)) (some : T (not (eqb k 0))) where
   enrol-places ps f t = places-of (enrol n k ps) (rw enrol-length (places-eight ps t)) (enrol-apart ps f (places-apart ps t))
 
 -- who was registered still is
-enrol-stays : (n k m : ℕ) (ps : List Place) → T (registered m ps) → T (registered m (enrol n k ps))
+pub enrol-stays : (n k m : ℕ) (ps : List Place) → T (registered m ps) → T (registered m (enrol n k ps))
 unfolding enrol registered
 enrol-stays n k m [] t = t
 enrol-stays n k m (p ∷ ps) t =
@@ -234,13 +234,13 @@ ended-ok r t = rights-of (ended r) t tt
 
 -- where nobody is gone, the holder is registered, or somebody is
 module _ (r : Rights) (s : T (not (gone r))) where
-  holder-there : T (oneHolds (r .kind)) → T (registered (r .holder) (r .places))
+  pub holder-there : T (oneHolds (r .kind)) → T (registered (r .holder) (r .places))
   unfolding gone
   holder-there a =
       not-not (registered (r .holder) (r .places)) (nand-rest (oneHolds (r .kind)) (not (registered (r .holder) (r .places))) a
       (nor-l (oneHolds (r .kind) && not (registered (r .holder) (r .places))) (allHold (r .kind) && not (somebody (r .places))) s))
 
-  somebody-there : T (allHold (r .kind)) → T (somebody (r .places))
+  pub somebody-there : T (allHold (r .kind)) → T (somebody (r .places))
   unfolding gone
   somebody-there a =
       not-not (somebody (r .places))
@@ -257,7 +257,7 @@ settled-ok r qs t u =
     (stands-map (r .places) qs (r .kind) (r .holder)
     (λ a b. holder-there (withPlaces r qs) s a) (λ a b. somebody-there (withPlaces r qs) s a) (rights-stand r t)))
 
-registered-somebody : (n : ℕ) (ps : List Place) → T (registered n ps) → T (somebody ps)
+pub registered-somebody : (n : ℕ) (ps : List Place) → T (registered n ps) → T (somebody ps)
 unfolding registered somebody
 registered-somebody n [] t = t
 registered-somebody n (p ∷ ps) t = or-map² (isOf n p) (used p) (registered n ps) (somebody ps) (isOf-used n p) (registered-somebody n ps) t
@@ -272,7 +272,7 @@ first-four false false false false true y t n = n
 first-four false false false false false true t n = n
 first-four false false false false false false t n = t
 
-type-one : (kind : ℕ) → T (isType kind) → T (not (allHold kind)) → T (oneHolds kind)
+pub type-one : (kind : ℕ) → T (isType kind) → T (not (allHold kind)) → T (oneHolds kind)
 unfolding isType isOneOf allHold oneHolds
 type-one kind t n = first-four (eqb kind 1) (eqb kind 3) (eqb kind 5) (eqb kind 6) (eqb kind 7) (eqb kind 8) t n
 
@@ -319,7 +319,7 @@ unfolding clearing withPlaces
 clearing-ok r t = raised-ok _ (ended-ok _ (thin-places (λ p. unused) thin-unused (r .places) (rights-places r t)))
 
 -- the sender is spared
-kept-place : (k n : ℕ) (p : Place) → p .nexus ≡ n → without (sender n) k p ≡ p
+pub kept-place : (k n : ℕ) (p : Place) → p .nexus ≡ n → without (sender n) k p ≡ p
 unfolding without spares
 kept-place k n p e =
     by-test (eqb (p .nexus) n) (λ b. T b → cond (eqb (p .key) k && not b) unused p ≡ p) (λ h x. both-ways (eqb (p .key) k)) (λ h x. absurd x) (rw e (eqb-refl n))
@@ -368,7 +368,7 @@ acted-ok Clear r n o small k u t = clearing-ok r t
 acted-ok Preempt r n o small k u t = preempting-ok r n (o .kind) (o .service) (k tt) (u tt) t
 acted-ok RegisterIgnoring r n o small k u t = registering-ok r n (o .service) small t
 
-known-sender : (r : Rights) (n : ℕ) (o : Parameters) → T (not (stranger r n o)) → T (registered n (r .places))
+pub known-sender : (r : Rights) (n : ℕ) (o : Parameters) → T (not (stranger r n o)) → T (registered n (r .places))
 unfolding stranger
 known-sender r n o w =
     not-not (registered n (r .places)) (nor-l (not (registered n (r .places))) (not (eqb (o .key) (keyOf n (r .places)))) w)
@@ -383,7 +383,7 @@ maker-registered Clear r n o w m = absurd m
 maker-registered Preempt r n o w m = known-sender r n o w
 maker-registered RegisterIgnoring r n o w m = absurd m
 
-key-right : (a : Action) (r : Rights) (n : ℕ) (o : Parameters) → first (decisionRows a r n o) ≡ Good → T (not (keyWrong a r n o))
+pub key-right : (a : Action) (r : Rights) (n : ℕ) (o : Parameters) → first (decisionRows a r n o) ≡ Good → T (not (keyWrong a r n o))
 unfolding refuses
 key-right a r n o e = false→T (keyWrong a r n o) (row-fails Conflict _ _ tt (later-good a r n o e))
 

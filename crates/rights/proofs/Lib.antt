@@ -3,3 +3,4 @@ pub mod ConflictLaws
 pub mod DecisionLaws
 pub mod Keeping
 pub mod Generation
+pub mod Holders

@@ -1,0 +1,162 @@
+-- The demands at the C interface: one call of `ridge_execute` is one step, so what holds of `step` over a history holds of a program in C.
+-- Assumes nothing.
+use mathlib.Core.Path.{_≡_, refl, ap, ap₂, _∙_}
+use mathlib.Core.Logic.{_≢_}
+use mathlib.Core.Bool.{not}
+use mathlib.Core.List.{List, [], _∷_, map}
+use Prim.Native.Nat.{ℕ}
+use lib.Dec.{T}
+use lib.ListN.{length}
+use Rattle.fields.specs.Bytes.{zeros}
+use Rattle.fields.proofs.Tests.{both}
+use Rattle.answers.specs.declared.Refusal.{Refusal}
+use Rattle.answers.specs.declared.Refusal.the-variants.{NotListed, InvalidField, OutOfRange, ListLength, ListField, NoPlace, OtherType, NoRoom}
+use Rattle.answers.specs.declared.Answer.{Answer}
+use Rattle.answers.specs.declared.Answer.the-variants.{Good, Refused, Conflict, Unusable, Short}
+use Rattle.answers.specs.Answers.{codesOf, numberOf, senseAfter}
+use Rattle.answers.specs.Order.{ifGoodBy, refuses}
+use Rattle.pool.specs.Valid.{capacityOk, slotsOk}
+use Rattle.rights.specs.Rights.{isOneOf}
+use Rattle.store.specs.declared.Unit.{Unit}
+use Rattle.store.specs.Store.{Store, Call, usable}
+use Rattle.store.specs.Fresh.{freshUnit, freshStore}
+use Rattle.store.specs.Step.{step}
+use Rattle.ridge.specs.Interface.{leftBy, executed, FreshLeft, freshBy, freshened}
+use Rattle.demands.specs.History.{Event, call, after, afterEvent, machine, afterAll, seenAll}
+use Rattle.demands.specs.Contents.{plain}
+use Rattle.demands.specs.Demands.{Secrecy}
+use Rattle.demands.specs.AtC.{toldBy, storeIn, onward, program, begun, toldOf, Faithful, Kept, Demand1AtC, Demand3AtC}
+use Rattle.demands.proofs.Usable.{usable-stays, owners-stay, medium-stays}
+use Rattle.demands.proofs.Fresh.{fresh-made}
+use Rattle.demands.proofs.Demand1.{step-listed, refused-store, refused-data, refused-none, sense-table, sense-past, data-past, data-length, sense-length}
+use Rattle.demands.proofs.Demand3 as D
+
+-- ---- one call of C is one step
+
+pub one-store : (s : Store) (c : Call) → storeIn (executed s c) ≡ after step s c
+unfolding storeIn executed leftBy after
+one-store s c = refl
+
+pub one-told : (s : Store) (c : Call) → toldBy (executed s c) ≡ toldOf (step s c .seen)
+unfolding toldBy toldOf executed leftBy
+one-told s c = refl
+
+pub onward-is : (s : Store) (e : Event) → onward s e ≡ afterEvent step s e
+unfolding onward afterEvent
+onward-is s (call c) = one-store s c
+
+-- ---- any history
+
+pub stores-are : (s : Store) (es : List Event) → afterAll program s es ≡ afterAll (machine step) s es
+unfolding afterAll
+stores-are s [] = refl
+stores-are s (e ∷ es) = stores-are (onward s e) es ∙ ap (λ (t : Store). afterAll (machine step) t es) (onward-is s e)
+
+pub sights-are : (s : Store) (es : List Event) → seenAll program s es ≡ map toldOf (seenAll (machine step) s es)
+unfolding seenAll
+sights-are s [] = refl
+sights-are s (call c ∷ es) =
+    ap₂ _∷_ (one-told s c)
+    (sights-are (onward s (call c)) es ∙ ap (λ (t : Store). map toldOf (seenAll (machine step) t es)) (onward-is s (call c)))
+
+-- ---- a history begins
+
+module _ (capacity : ℕ) (u : Unit) (owners : List ℕ) (b : T (capacityOk capacity)) (n : T (slotsOk (length owners))) where
+  made : freshened capacity u owners ≡ freshBy u (record { answer = Good; unit = freshUnit capacity; owners = zeros (length owners) })
+  unfolding freshened
+  made = ap (freshBy u) (fresh-made capacity owners (both (capacityOk capacity) (slotsOk (length owners)) b n))
+
+  pub fresh-zero : freshened capacity u owners .answer ≡ 0
+  unfolding freshBy numberOf
+  fresh-zero = ap (λ (x : FreshLeft). x .answer) made
+
+  pub fresh-begins : (medium : List ℕ) → begun (freshened capacity u owners) medium ≡ freshStore capacity (length owners) medium
+  unfolding freshBy begun freshStore ifGoodBy refuses
+  fresh-begins medium = ap (λ (x : FreshLeft). begun x medium) made
+
+pub faithful : Faithful
+unfolding after
+faithful = record {
+  store = one-store;
+  told = one-told;
+  stores = stores-are;
+  sights = sights-are;
+  fresh-answer = fresh-zero;
+  fresh-store = λ capacity u owners medium b n. fresh-begins capacity u owners b n medium;
+}
+
+-- ---- demand 1
+
+refused : (a : Answer) → numberOf a ≢ 0 → a ≢ Good
+unfolding numberOf
+refused a n e = n (ap numberOf e)
+
+pub refusal-keeps : (s : Store) (c : Call) → executed s c .answer ≢ 0 → Kept s c (executed s c)
+unfolding executed leftBy after
+refusal-keeps s c n =
+    let d = refused (step s c .seen .answer) n in
+    let k = refused-store s c d in
+    record {
+      unit = ap (λ (t : Store). t .unit) k;
+      owners = ap (λ (t : Store). t .pool .owners) k;
+      medium = ap (λ (t : Store). t .pool .medium) k;
+      dataIn = refused-data s c d;
+      returned = refused-none s c d;
+    }
+
+onward-usable : (s : Store) (e : Event) → T (usable s) → T (usable (onward s e))
+unfolding onward
+onward-usable s (call c) u = rw (one-store s c) (usable-stays s c u)
+
+pub usable-ever : (s : Store) (es : List Event) → T (usable s) → T (usable (afterAll program s es))
+unfolding afterAll
+usable-ever s [] u = u
+usable-ever s (e ∷ es) u = usable-ever (onward s e) es (onward-usable s e u)
+
+-- a number with a status of its own tells that sense is left
+refusal-numbered : (r : Refusal) → T (not (isOneOf (codesOf r .number) (0 ∷ 10 ∷ 11 ∷ 12 ∷ [])))
+unfolding codesOf isOneOf
+refusal-numbered NotListed = tt
+refusal-numbered InvalidField = tt
+refusal-numbered OutOfRange = tt
+refusal-numbered ListLength = tt
+refusal-numbered ListField = tt
+refusal-numbered NoPlace = tt
+refusal-numbered OtherType = tt
+refusal-numbered NoRoom = tt
+
+sense-left : (a : Answer) (l : List ℕ) → T (isOneOf (numberOf a) (0 ∷ 10 ∷ 11 ∷ 12 ∷ [])) → senseAfter a l ≡ l
+unfolding numberOf senseAfter
+sense-left Good l t = refl
+sense-left (Refused x) l t = D.never (isOneOf (codesOf (x .refusal) .number) (0 ∷ 10 ∷ 11 ∷ 12 ∷ [])) t (refusal-numbered (x .refusal))
+sense-left Conflict l t = refl
+sense-left Unusable l t = refl
+sense-left Short l t = refl
+
+pub demand-1-at-c : Demand1AtC
+unfolding executed leftBy after
+demand-1-at-c = record {
+  listed = step-listed;
+  refusal-keeps = refusal-keeps;
+  usable-ever = usable-ever;
+  sense-kept = λ s c t. sense-table s c ∙ sense-left (step s c .seen .answer) (c .sense) t;
+  sense-past = sense-past;
+  data-past = data-past;
+  data-length = data-length;
+  sense-length = sense-length;
+  owners-length = owners-stay;
+  medium-length = medium-stays;
+}
+
+-- ---- demand 3
+
+pub secrecy-at-c : Secrecy program plain
+unfolding onward storeIn toldBy toldOf executed leftBy after
+secrecy-at-c =
+    D.secrecy-by program plain D.plain-unit D.plain-usable onward-usable
+    (λ s t c u v e k. ap toldOf (D.kept-seen s t c u v e k)) D.kept-unit D.unkept-unit
+    (λ s t c n. ap toldOf (D.nobody-learns c n s t)) (λ s c n. D.nobody-still c n s)
+
+pub demand-3-at-c : Demand3AtC
+unfolding storeIn executed leftBy after
+demand-3-at-c = record { secrecy = secrecy-at-c; still = D.shut-out-still; out-pool = D.out-pool }

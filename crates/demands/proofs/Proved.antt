@@ -1,0 +1,26 @@
+-- All that is proved of the store, by one term.
+-- Assumes nothing.
+use Rattle.demands.specs.Proved.{Proved}
+use Rattle.demands.proofs.Demand1.{demand-1}
+use Rattle.demands.proofs.Demand2.{demand-2}
+use Rattle.demands.proofs.Storage.{storage}
+use Rattle.demands.proofs.Reservations.{reservations}
+use Rattle.demands.proofs.Telling.{telling}
+use Rattle.demands.proofs.FromFresh.{from-fresh}
+use Rattle.demands.proofs.Demand3.{demand-3, secrecy}
+use Rattle.demands.proofs.AtC.{faithful, demand-1-at-c, demand-3-at-c}
+
+pub proved : Proved
+proved = record {
+  demand-1 = demand-1;
+  demand-2 = demand-2;
+  storage = storage;
+  reservations = reservations;
+  telling = telling;
+  from-fresh = from-fresh;
+  demand-3 = demand-3;
+  secrecy = secrecy;
+  faithful = faithful;
+  demand-1-at-c = demand-1-at-c;
+  demand-3-at-c = demand-3-at-c;
+}

@@ -1,0 +1,257 @@
+-- Reservations as those put it who use them, proved of `step`.
+-- Assumes nothing.
+use mathlib.Core.Path.{_≡_, refl, sym, ap, _∙_, subst}
+use mathlib.Core.Bool.{Bool, not, _&&_, _||_, cond}
+use Prim.Native.Nat.{ℕ}
+use lib.Dec.{T, eqb, eqb→eq}
+use Rattle.fields.proofs.Tests.{nand-rest, not-not, by-test, false→T}
+use Rattle.answers.specs.declared.Answer.the-variants.{Good, Conflict}
+use Rattle.answers.specs.Answers.{listField, noPlace, otherType}
+use Rattle.answers.specs.Order.{first, refuses}
+use Rattle.answers.proofs.OrderLaws.{row-fails}
+use Rattle.rights.specs.declared.Rights.{Rights}
+use Rattle.rights.specs.declared.Action.{Action}
+use Rattle.rights.specs.declared.Action.the-variants.{Register, Reserve, Release, Clear, Preempt, RegisterIgnoring}
+use Rattle.rights.specs.declared.Parameters.{Parameters}
+use Rattle.rights.specs.Places.{registered, keyOf}
+use Rattle.rights.specs.Rights.{oneHolds, allHold, holds, holderKey, withPlaces, withReservation, withGeneration, held, ended, raised}
+use Rattle.rights.specs.Actions.{keyWrong, crowded, actionRows, registering, reserving, clearing, releasing, preempting, acted}
+use Rattle.rights.proofs.Keeping.{makes, known-sender, places-apart, rights-places}
+use Rattle.rights.proofs.Holders.{holder-registered, key-cleared, none-registered, holder-key, holder-is, preempted-key, preempted-kind, preempted-over, preempted-else, preempted-same, reserving-kind, reserving-holds, registering-key, registering-others, registering-holds, registering-kind, unregistering-ends}
+use Rattle.forms.specs.declared.Tell.the-variants.{Keys, Reservation}
+use Rattle.forms.specs.declared.Command.{Command}
+use Rattle.forms.specs.declared.Command.the-variants.{Tells, Moves, Alters}
+use Rattle.forms.specs.declared.Request.{Request}
+use Rattle.forms.specs.Forms.{Asked, nothing, asks, askedOf}
+use Rattle.store.specs.Store.{Store, Call, withRights, withUnit}
+use Rattle.store.specs.Alter.{parametersOf}
+use Rattle.store.specs.Tell.{told}
+use Rattle.store.specs.Step.{commandStore, storeBy, step}
+use Rattle.demands.specs.History.{after}
+use Rattle.demands.specs.Generation.{serviceKey}
+use Rattle.demands.specs.Contents.{AsksFor, IsGood}
+use Rattle.demands.specs.Reservations.{keyIn, isRegistered, isHolder, typeIn, takesOver, preempts, actionTouches, commandTouches, askedTouches, touches, registers, Reservations}
+use Rattle.demands.proofs.Moving.{done-after, after-ways}
+use Rattle.demands.proofs.Telling.{told-seen}
+use Rattle.demands.proofs.Conflicts.{conflict-table, tells-pass}
+use Rattle.demands.proofs.Altering.{altered-store, altered, altered-own, altered-key, altered-ok, altered-type}
+
+-- ---- CLEAR
+
+module _ (s : Store) (c : Call) (w : AsksFor (Alters Clear) c) (e : IsGood s c) where
+  pub clear-registrations : (n : ℕ) → T (not (isRegistered (after step s c) n))
+  unfolding isRegistered acted clearing raised withGeneration ended withReservation withPlaces
+  clear-registrations n =
+      subst (λ (r : Rights). T (not (registered n (r .places)))) (sym (altered Clear s c w e))
+      (none-registered n _ (key-cleared n (s .unit .rights .places)))
+
+  pub clear-reservation : typeIn (after step s c) ≡ 0
+  unfolding typeIn acted clearing raised withGeneration ended withReservation
+  clear-reservation = ap (λ (r : Rights). r .kind) (altered Clear s c w e)
+
+-- ---- PREEMPT
+
+module _ (s : Store) (c : Call) (w : AsksFor (Alters Preempt) c) (e : IsGood s c) where
+  named-key : T (not (eqb (serviceKey c) 0))
+  unfolding serviceKey parametersOf actionRows refuses
+  named-key = false→T _ (row-fails listField _ _ tt (altered-own Preempt s c w e))
+
+  over-is : eqb (holderKey (s .unit .rights)) (serviceKey c) ≡ takesOver s c
+  unfolding takesOver typeIn keyIn
+  over-is = holder-key (s .unit .rights) (serviceKey c) named-key
+
+  preempted : after step s c .unit .rights ≡ preempting (s .unit .rights) (c .nexus) (w .request .kind) (serviceKey c)
+  unfolding acted parametersOf serviceKey
+  preempted = altered Preempt s c w e
+
+  pub preempt-registrations : (n : ℕ) → keyIn (after step s c) n ≡ cond (preempts s c n) 0 (keyIn s n)
+  unfolding keyIn preempts
+  preempt-registrations n =
+      ap (λ (r : Rights). keyOf n (r .places)) preempted
+      ∙ preempted-key (s .unit .rights) (c .nexus) (w .request .kind) (serviceKey c) n (places-apart _ (rights-places (s .unit .rights) (altered-ok Preempt s c w e)))
+      ∙ ap (λ (b : Bool). cond (eqb (keyIn s n) (serviceKey c) && not (b && eqb n (c .nexus))) 0 (keyIn s n)) over-is
+
+  module _ (t : T (takesOver s c)) where
+    over : T (eqb (holderKey (s .unit .rights)) (serviceKey c))
+    over = subst T (sym over-is) t
+
+    pub preempt-type : typeIn (after step s c) ≡ w .request .kind
+    unfolding typeIn
+    preempt-type = ap (λ (r : Rights). r .kind) preempted ∙ preempted-kind (s .unit .rights) (c .nexus) (w .request .kind) (serviceKey c) over
+
+    pub preempt-holders : (n : ℕ) → isHolder (after step s c) n ≡ cond (allHold (w .request .kind)) (isRegistered (after step s c) n) (eqb (c .nexus) n)
+    unfolding isHolder isRegistered makes
+    preempt-holders n =
+        subst (λ (r : Rights). holds r n ≡ cond (allHold (w .request .kind)) (registered n (r .places)) (eqb (c .nexus) n)) (sym preempted)
+        (preempted-over (s .unit .rights) (c .nexus) (w .request .kind) (serviceKey c) n (altered-type Preempt s c w e tt) over)
+
+  module _ (t : T (not (takesOver s c))) where
+    not-over : T (not (eqb (holderKey (s .unit .rights)) (serviceKey c)))
+    not-over = subst (λ (b : Bool). T (not b)) (sym over-is) t
+
+    pub preempt-holders-left : (n : ℕ) → isHolder (after step s c) n ≡ (isHolder s n && isRegistered (after step s c) n)
+    unfolding isHolder isRegistered
+    preempt-holders-left n =
+        subst (λ (r : Rights). holds r n ≡ (holds (s .unit .rights) n && registered n (r .places))) (sym preempted)
+        (preempted-else (s .unit .rights) (c .nexus) (w .request .kind) (serviceKey c) n not-over)
+
+    pub preempt-type-left : (n : ℕ) → T (isHolder (after step s c) n) → typeIn (after step s c) ≡ typeIn s
+    unfolding isHolder typeIn
+    preempt-type-left n =
+        subst (λ (r : Rights). T (holds r n) → r .kind ≡ s .unit .rights .kind) (sym preempted)
+        (preempted-same (s .unit .rights) (c .nexus) (w .request .kind) (serviceKey c) n not-over)
+
+-- ---- RESERVE
+
+module _ (s : Store) (c : Call) (w : AsksFor (Alters Reserve) c) (e : IsGood s c) where
+  sender-there : T (registered (c .nexus) (s .unit .rights .places))
+  unfolding keyWrong
+  sender-there = known-sender (s .unit .rights) (c .nexus) _ (altered-key Reserve s c w e)
+
+  pub reserve-holds : T (isHolder (after step s c) (c .nexus))
+  unfolding isHolder acted actionRows parametersOf refuses makes
+  reserve-holds =
+      subst (λ (r : Rights). T (holds r (c .nexus))) (sym (altered Reserve s c w e))
+      (reserving-holds (s .unit .rights) (c .nexus) (w .request .kind) (altered-type Reserve s c w e tt) sender-there
+      (false→T _ (row-fails Conflict _ _ tt (altered-own Reserve s c w e))))
+
+  pub reserve-type : typeIn (after step s c) ≡ w .request .kind
+  unfolding typeIn acted actionRows parametersOf refuses makes
+  reserve-type =
+      ap (λ (r : Rights). r .kind) (altered Reserve s c w e)
+      ∙ reserving-kind (s .unit .rights) (c .nexus) (w .request .kind) (altered-type Reserve s c w e tt) sender-there
+      (false→T _ (row-fails Conflict _ _ tt (altered-own Reserve s c w e)))
+
+-- ---- RELEASE
+
+module _ (s : Store) (c : Call) (w : AsksFor (Alters Release) c) where
+  pub release-type : IsGood s c → T (isHolder s (c .nexus)) → typeIn s ≡ w .request .kind
+  unfolding isHolder typeIn actionRows parametersOf refuses
+  release-type e t =
+      eqb→eq (s .unit .rights .kind) (w .request .kind) (not-not (eqb (s .unit .rights .kind) (w .request .kind))
+      (nand-rest (holds (s .unit .rights) (c .nexus)) (not (eqb (s .unit .rights .kind) (w .request .kind))) t
+      (false→T (holds (s .unit .rights) (c .nexus) && not (eqb (s .unit .rights .kind) (w .request .kind)))
+      (row-fails otherType _ _ tt (altered-own Release s c w e)))))
+
+  pub release-ends : IsGood s c → T (isHolder s (c .nexus)) → typeIn (after step s c) ≡ 0
+  unfolding isHolder typeIn acted releasing ended withReservation
+  release-ends e t =
+      ap (λ (r : Rights). r .kind) (altered Release s c w e)
+      ∙ by-test (holds (s .unit .rights) (c .nexus)) (λ b. T b → cond b (ended (s .unit .rights)) (s .unit .rights) .kind ≡ 0) (λ _ _. refl) (λ _ h. absurd h) t
+
+  pub release-nothing : T (not (isHolder s (c .nexus))) → after step s c ≡ s
+  unfolding isHolder acted releasing
+  release-nothing t =
+      after-ways s c (λ x. x ≡ s)
+      (λ e. done-after s c e ∙ altered-store Release s c w
+      ∙ by-test (holds (s .unit .rights) (c .nexus))
+      (λ b. T (not b) → withUnit s (withRights (s .unit) (cond b (ended (s .unit .rights)) (s .unit .rights))) ≡ s) (λ _ h. absurd h) (λ _ _. refl) t) refl
+
+-- ---- REGISTER
+
+-- actions 0 and 6 are the same where nothing refuses them
+registers-acted : (a : Action) (r : Rights) (n : ℕ) (o : Parameters) → T (registers a) → acted a r n o ≡ registering r n (o .service)
+unfolding registers acted
+registers-acted Register r n o t = refl
+registers-acted Reserve r n o t = absurd t
+registers-acted Release r n o t = absurd t
+registers-acted Clear r n o t = absurd t
+registers-acted Preempt r n o t = absurd t
+registers-acted RegisterIgnoring r n o t = refl
+
+registers-room : (a : Action) (r : Rights) (n : ℕ) (o : Parameters) → T (registers a) → first (actionRows a r n o) ≡ Good → T (not (crowded r n o))
+unfolding registers actionRows refuses
+registers-room Register r n o t e = false→T (crowded r n o) (row-fails noPlace _ _ tt e)
+registers-room Reserve r n o t e = absurd t
+registers-room Release r n o t e = absurd t
+registers-room Clear r n o t e = absurd t
+registers-room Preempt r n o t e = absurd t
+registers-room RegisterIgnoring r n o t e = false→T (crowded r n o) (row-fails noPlace _ _ tt e)
+
+module _ (a : Action) (k : T (registers a)) (s : Store) (c : Call) (w : AsksFor (Alters a) c) (e : IsGood s c) where
+  registered-as : after step s c .unit .rights ≡ registering (s .unit .rights) (c .nexus) (serviceKey c)
+  unfolding parametersOf serviceKey
+  registered-as = altered a s c w e ∙ registers-acted a (s .unit .rights) (c .nexus) (parametersOf (w .request) (c .dataOut)) k
+
+  pub register-key : keyIn (after step s c) (c .nexus) ≡ serviceKey c
+  unfolding keyIn crowded parametersOf serviceKey
+  register-key =
+      ap (λ (r : Rights). keyOf (c .nexus) (r .places)) registered-as
+      ∙ registering-key (s .unit .rights) (c .nexus) (serviceKey c)
+      (registers-room a (s .unit .rights) (c .nexus) (parametersOf (w .request) (c .dataOut)) k (altered-own a s c w e))
+
+  pub register-holders : (n : ℕ) → isHolder (after step s c) n ≡ (isRegistered (after step s c) n && (isHolder s n || allHold (typeIn s)))
+  unfolding isHolder isRegistered typeIn
+  register-holders n =
+      subst (λ (r : Rights). holds r n ≡ (registered n (r .places) && (holds (s .unit .rights) n || allHold (s .unit .rights .kind)))) (sym registered-as)
+      (registering-holds (s .unit .rights) (c .nexus) (serviceKey c) n (altered-ok a s c w e))
+
+  pub register-type : (n : ℕ) → T (isHolder (after step s c) n) → typeIn (after step s c) ≡ typeIn s
+  unfolding isHolder typeIn
+  register-type n =
+      subst (λ (r : Rights). T (holds r n) → r .kind ≡ s .unit .rights .kind) (sym registered-as)
+      (registering-kind (s .unit .rights) (c .nexus) (serviceKey c) n)
+
+  pub holder-unregisters : serviceKey c ≡ 0 → T (oneHolds (typeIn s)) → T (isHolder s (c .nexus)) → typeIn (after step s c) ≡ 0
+  unfolding typeIn isHolder
+  holder-unregisters z o h =
+      let is : s .unit .rights .holder ≡ c .nexus = holder-is (s .unit .rights) (c .nexus) o h in
+      ap (λ (r : Rights). r .kind) registered-as
+      ∙ unregistering-ends (s .unit .rights) (c .nexus) (serviceKey c) (rw z tt) o is
+      (subst (λ (n : ℕ). T (registered n (s .unit .rights .places))) is (holder-registered (s .unit .rights) (altered-ok a s c w e) o))
+
+-- ---- whose registrations a call changes
+
+action-others : (a : Action) (r : Rights) (n m : ℕ) (o : Parameters) → T (not (actionTouches a n m)) → keyOf m (acted a r n o .places) ≡ keyOf m (r .places)
+unfolding actionTouches acted reserving held releasing ended withReservation
+action-others Register r n m o t = registering-others r n (o .service) m t
+action-others Reserve r n m o t =
+    by-test (eqb (r .kind) 0) (λ b. keyOf m (cond b (held r (o .kind) n) r .places) ≡ keyOf m (r .places)) (λ _. refl) (λ _. refl)
+action-others Release r n m o t = by-test (holds r n) (λ b. keyOf m (cond b (ended r) r .places) ≡ keyOf m (r .places)) (λ _. refl) (λ _. refl)
+action-others Clear r n m o t = absurd t
+action-others Preempt r n m o t = absurd t
+action-others RegisterIgnoring r n m o t = registering-others r n (o .service) m t
+
+command-others : (k : Command) (q : Request) (s : Store) (c : Call) (m : ℕ) → T (not (commandTouches k (c .nexus) m)) → keyIn (commandStore k q s c) m ≡ keyIn s m
+unfolding commandTouches commandStore keyIn
+command-others (Tells t) q s c m h = refl
+command-others (Moves x) q s c m h = refl
+command-others (Alters a) q s c m h = action-others a (s .unit .rights) (c .nexus) m (parametersOf q (c .dataOut)) h
+
+asked-others : (x : Asked) (s : Store) (c : Call) (m : ℕ) → T (not (askedTouches x (c .nexus) m)) → keyIn (storeBy x s c) m ≡ keyIn s m
+unfolding askedTouches storeBy
+asked-others nothing s c m h = refl
+asked-others (asks q) s c m h = command-others (q .command) q s c m h
+
+pub registration-stays : (s : Store) (c : Call) (n : ℕ) → T (not (touches c n)) → keyIn (after step s c) n ≡ keyIn s n
+unfolding touches
+registration-stays s c n h =
+    after-ways s c (λ x. keyIn x n ≡ keyIn s n) (λ e. ap (λ (x : Store). keyIn x n) (done-after s c e) ∙ asked-others (askedOf (c .cdb)) s c n h) refl
+
+-- ---- all of them
+
+pub reservations : Reservations step
+unfolding told
+reservations = record {
+  clear-registrations = clear-registrations;
+  clear-reservation = clear-reservation;
+  preempt-registrations = preempt-registrations;
+  preempt-type = preempt-type;
+  preempt-holders = preempt-holders;
+  preempt-holders-left = preempt-holders-left;
+  preempt-type-left = preempt-type-left;
+  reserve-holds = reserve-holds;
+  reserve-type = reserve-type;
+  release-type = release-type;
+  release-ends = release-ends;
+  release-nothing = release-nothing;
+  register-key = register-key;
+  register-holders = register-holders;
+  register-type = register-type;
+  registration-stays = registration-stays;
+  holder-unregisters = holder-unregisters;
+  keys-told = told-seen Keys;
+  reservation-told = told-seen Reservation;
+  conflict-table = conflict-table;
+  others-pass = tells-pass;
+}

@@ -1,0 +1,112 @@
+-- The demands at the C interface, of a program that calls `ridge_execute` again and again: each time with the record, the owners and the medium as
+-- the last call left them. `executed` and `freshened` are what the two functions promise; proofs/AtC proves the records.
+-- Assumes nothing.
+use mathlib.Core.Path.{_≡_}
+use mathlib.Core.Logic.{_≢_}
+use mathlib.Core.Bool.{not}
+use mathlib.Core.List.{List, [], _∷_, map}
+use Prim.Native.Nat.{ℕ}
+use lib.Dec.{T}
+use lib.ListN.{length, drop}
+use Rattle.answers.specs.Answers.{numberOf}
+use Rattle.pool.specs.Valid.{capacityOk, slotsOk}
+use Rattle.rights.specs.Rights.{isOneOf}
+use Rattle.store.specs.declared.Unit.{Unit}
+use Rattle.store.specs.Store.{Store, Call, Seen, usable}
+use Rattle.store.specs.Fresh.{freshStore}
+use Rattle.store.specs.Step.{step}
+use Rattle.ridge.specs.Interface.{Left, executed, FreshLeft, freshened}
+use Rattle.demands.specs.History.{Event, call, Machine, machine, isOut, isShutOut, afterAll, seenAll}
+use Rattle.demands.specs.Contents.{plain}
+use Rattle.demands.specs.Demands.{Secrecy}
+
+-- ---- the machine that a C program has
+
+-- what the caller sees: 01's answer number, the returned length, and the lent buffers
+pub record Told : Type 0 where
+  pub answer : ℕ
+  pub returned : ℕ
+  pub dataIn : List ℕ
+  pub sense : List ℕ
+
+unfoldable pub toldBy : Left → Told
+toldBy x = record { answer = x .answer; returned = x .returned; dataIn = x .dataIn; sense = x .sense }
+
+-- the store that a call leaves: the next one is made on it
+unfoldable pub storeIn : Left → Store
+storeIn x = record { unit = x .unit; pool = record { owners = x .owners; medium = x .medium } }
+
+unfoldable pub onward : Store → Event → Store
+onward s (call c) = storeIn (executed s c)
+
+-- a C program: its states are what it lends
+abbrev pub program : Machine
+program = record {
+  State = Store;
+  unit = λ s. s .unit;
+  usable = usable;
+  Sight = Told;
+  seen = λ s c. toldBy (executed s c);
+  next = onward;
+}
+
+-- the store that `ridge_fresh` begins, with the medium that is lent from then on
+unfoldable pub begun : FreshLeft → List ℕ → Store
+begun x medium = record { unit = x .unit; pool = record { owners = x .owners; medium = medium } }
+
+-- what is seen of a step, with 01's number for the answer
+unfoldable pub toldOf : Seen → Told
+toldOf x = record { answer = numberOf (x .answer); returned = x .returned; dataIn = x .dataIn; sense = x .sense }
+
+-- ---- one call of C is one step
+
+pub record Faithful : Type 0 where
+  -- what a call leaves is the store after the step, and what is told is what is seen of it
+  pub store : (s : Store) (c : Call) → storeIn (executed s c) ≡ step s c .store
+  pub told : (s : Store) (c : Call) → toldBy (executed s c) ≡ toldOf (step s c .seen)
+  -- and so it is over any history
+  pub stores : (s : Store) (es : List Event) → afterAll program s es ≡ afterAll (machine step) s es
+  pub sights : (s : Store) (es : List Event) → seenAll program s es ≡ map toldOf (seenAll (machine step) s es)
+  -- a history may begin with `ridge_fresh`: within the bounds it answers 0, and what it leaves is a fresh store, whatever lay in the record before
+  pub fresh-answer : (capacity : ℕ) (u : Unit) (owners : List ℕ) → T (capacityOk capacity) → T (slotsOk (length owners))
+      → freshened capacity u owners .answer ≡ 0
+  pub fresh-store : (capacity : ℕ) (u : Unit) (owners medium : List ℕ) → T (capacityOk capacity) → T (slotsOk (length owners))
+      → begun (freshened capacity u owners) medium ≡ freshStore capacity (length owners) medium
+
+-- ---- demand 1
+
+-- all that a refusal must leave is left, and nothing returns
+pub record Kept (s : Store) (c : Call) (x : Left) : Type 0 where
+  pub unit : x .unit ≡ s .unit
+  pub owners : x .owners ≡ s .pool .owners
+  pub medium : x .medium ≡ s .pool .medium
+  pub dataIn : x .dataIn ≡ c .dataIn
+  pub returned : x .returned ≡ 0
+
+pub record Demand1AtC : Type 0 where
+  -- "Number 9 is not used"
+  pub listed : (s : Store) (c : Call) → T (isOneOf (executed s c .answer) (0 ∷ 1 ∷ 2 ∷ 3 ∷ 4 ∷ 5 ∷ 6 ∷ 7 ∷ 8 ∷ 10 ∷ 11 ∷ 12 ∷ []))
+  -- an answer other than 0 leaves the record, the owners, the medium and data-in as they were
+  pub refusal-keeps : (s : Store) (c : Call) → executed s c .answer ≢ 0 → Kept s c (executed s c)
+  -- a store that can be used can be used for ever
+  pub usable-ever : (s : Store) (es : List Event) → T (usable s) → T (usable (afterAll program s es))
+  -- "Otherwise sense is untouched, as are sense bytes past 18 always."
+  pub sense-kept : (s : Store) (c : Call) → T (isOneOf (executed s c .answer) (0 ∷ 10 ∷ 11 ∷ 12 ∷ [])) → executed s c .sense ≡ c .sense
+  pub sense-past : (s : Store) (c : Call) → drop 18 (executed s c .sense) ≡ drop 18 (c .sense)
+  -- "Data-in is written only on 0, and only its first returned bytes."
+  pub data-past : (s : Store) (c : Call) → drop (executed s c .returned) (executed s c .dataIn) ≡ drop (executed s c .returned) (c .dataIn)
+  -- what is lent keeps its length
+  pub data-length : (s : Store) (c : Call) → length (executed s c .dataIn) ≡ length (c .dataIn)
+  pub sense-length : (s : Store) (c : Call) → length (executed s c .sense) ≡ length (c .sense)
+  pub owners-length : (s : Store) (c : Call) → length (executed s c .owners) ≡ length (s .pool .owners)
+  pub medium-length : (s : Store) (c : Call) → length (executed s c .medium) ≡ length (s .pool .medium)
+
+-- ---- demand 3
+
+pub record Demand3AtC : Type 0 where
+  -- over any two histories of C calls: what is told to those who are shut out is a function of the record and of the calls that are watched
+  pub secrecy : Secrecy program plain
+  -- a call by one who is shut out changes nothing that is stored, unless it is a reservation-out call
+  pub still : (s : Store) (c : Call) → T (not (isOut c)) → T (isShutOut s c) → storeIn (executed s c) ≡ s
+  -- which changes no block and no mapping
+  pub out-pool : (s : Store) (c : Call) → T (isOut c) → storeIn (executed s c) .pool ≡ s .pool

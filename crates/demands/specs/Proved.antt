@@ -1,0 +1,38 @@
+-- All that is proved of the store, in one record: what a reader who reads one file of theorems should read. proofs/Proved.antt has the one term that proves it.
+-- It rests on the definitions that it names and those that these name, and on nothing else; `tools/definitions` lists them.
+-- Assumes nothing.
+use mathlib.Core.Path.{_≡_}
+use mathlib.Core.List.{List}
+use Prim.Native.Nat.{ℕ, _*_}
+use lib.Dec.{T}
+use lib.ListN.{length}
+use Rattle.pool.specs.Bounds.{blockBytes}
+use Rattle.pool.specs.Valid.{capacityOk, slotsOk}
+use Rattle.store.specs.Fresh.{freshStore}
+use Rattle.store.specs.Step.{step}
+use Rattle.demands.specs.History.{machine}
+use Rattle.demands.specs.Contents.{plain}
+use Rattle.demands.specs.Demands.{Demand1, Demand2, Storage, Demand3, Secrecy}
+use Rattle.demands.specs.Reservations.{Reservations}
+use Rattle.demands.specs.Telling.{Telling}
+use Rattle.demands.specs.FromFresh.{FromFresh}
+use Rattle.demands.specs.AtC.{Faithful, Demand1AtC, Demand3AtC}
+
+pub record Proved : Type 0 where
+  -- every call gets a listed answer, and a refusal changes nothing
+  pub demand-1 : Demand1 step
+  -- every answer and the whole state after it are what the rules say; and so it looks to those who write and read, who reserve, and who ask
+  pub demand-2 : Demand2 step
+  pub storage : Storage
+  pub reservations : Reservations step
+  pub telling : Telling step
+  -- step by step from a fresh store
+  pub from-fresh : (capacity slots : ℕ) (medium : List ℕ) → T (capacityOk capacity) → T (slotsOk slots) → length medium ≡ blockBytes * slots
+      → FromFresh (freshStore capacity slots medium)
+  -- nexuses shut out from reading learn nothing of blocks and maps
+  pub demand-3 : Demand3 step
+  pub secrecy : Secrecy (machine step) plain
+  -- and all of it at the interface that is shipped
+  pub faithful : Faithful
+  pub demand-1-at-c : Demand1AtC
+  pub demand-3-at-c : Demand3AtC

@@ -1,0 +1,94 @@
+-- Builds that are wrong in one thing each: the laws of reservations refuse three of them, those of telling the fourth.
+-- Assumes nothing.
+use mathlib.Core.Bool.{not, _&&_, cond}
+use mathlib.Core.List.{List, [], _∷_, _++_}
+use Prim.Native.Nat.{ℕ}
+use lib.Dec.{eqb}
+use Rattle.fields.specs.Bytes.{put, zeros}
+use Rattle.fields.specs.Field.{byte, bytes}
+use Rattle.answers.specs.declared.Answer.the-variants.{Conflict}
+use Rattle.pool.specs.Pool.{pool}
+use Rattle.rights.specs.Places.{unused, registration}
+use Rattle.rights.specs.Rights.{isOneOf, holds, withPlaces, ended}
+use Rattle.forms.specs.Forms.{action}
+use Rattle.store.specs.Store.{Store, Call, Seen, usable, withRights, withUnit, seenOf}
+use Rattle.store.specs.Step.{step}
+use Rattle.demands.specs.History.{Build}
+use Rattle.demands.specs.Contents.{cdb10, callWith}
+
+-- ---- the builds
+
+-- CLEAR keeps the registrations
+unfoldable pub keepingAtClear : Build
+keepingAtClear s c =
+    cond (eqb (byte 0 (c .cdb)) 0x5F && eqb (action (c .cdb)) 3)
+    (record {
+      seen = step s c .seen;
+      store = withUnit s (withRights (s .unit) (withPlaces (step s c .store .unit .rights) (s .unit .rights .places)));
+    })
+    (step s c)
+
+-- READ(10) by others conflicts under 1 and 7 too
+unfoldable pub harsh : Build
+harsh s c =
+    cond (eqb (byte 0 (c .cdb)) 0x28 && isOneOf (s .unit .rights .kind) (1 ∷ 7 ∷ []) && not (holds (s .unit .rights) (c .nexus)) && usable s)
+    (record { seen = seenOf Conflict [] c; store = s })
+    (step s c)
+
+-- the store with no reservation
+unfoldable pub unreserved : Store → Store
+unreserved s = withUnit s (withRights (s .unit) (ended (s .unit .rights)))
+
+-- WRITE(10) passes under 1, 3, 6, 7, 8: only 5 stops it
+unfoldable pub lax : Build
+lax s c =
+    cond (eqb (byte 0 (c .cdb)) 0x2A && isOneOf (s .unit .rights .kind) (1 ∷ 3 ∷ 6 ∷ 7 ∷ 8 ∷ []))
+    (record { seen = step (unreserved s) c .seen; store = record { unit = s .unit; pool = step (unreserved s) c .store .pool } })
+    (step s c)
+
+-- what is seen with byte 14 of the data 0
+unfoldable pub cleared14 : Seen → Seen
+cleared14 x = record { answer = x .answer; returned = x .returned; dataIn = put (x .dataIn) 14 (0 ∷ []); sense = x .sense }
+
+-- READ CAPACITY(16) has 0 in byte 14: no thin provisioning, and no zeros
+unfoldable pub bare : Build
+bare s c =
+    cond (eqb (byte 0 (c .cdb)) 0x9E && eqb (step s c .seen .returned) 32)
+    (record { seen = cleared14 (step s c .seen); store = s })
+    (step s c)
+
+-- ---- a store and the calls that show it
+
+-- capacity 8, one free slot; type 1, held by nexus 1 with the key 11h; nexus 2 is registered with the key 22h
+unfoldable pub shown : Store
+shown = record {
+  unit = record {
+    capacity = 8;
+    rights = record {
+      places = registration 1 0x11 ∷ registration 2 0x22 ∷ unused ∷ unused ∷ unused ∷ unused ∷ unused ∷ unused ∷ [];
+      holder = 1;
+      generation = 0;
+      kind = 1;
+    };
+  };
+  pool = pool (0 ∷ []) (zeros 512);
+}
+
+unfoldable pub showing : List ℕ → ℕ → List ℕ → Call
+showing cdb nexus out = callWith cdb nexus out (zeros 512) (zeros 18)
+
+-- CLEAR by the holder
+unfoldable pub clears : Call
+clears = showing (0x5F ∷ 3 ∷ 0 ∷ 0 ∷ 0 ∷ 0 ∷ 0 ∷ 0 ∷ 24 ∷ 0 ∷ []) 1 (bytes 8 0x11 ++ zeros 16)
+
+-- READ(10) of block 0 by the registered nexus
+unfoldable pub reads : Call
+reads = showing (cdb10 0x28 0 1) 2 []
+
+-- WRITE(10) of block 0 by a nexus that is not registered
+unfoldable pub writes : Call
+writes = showing (cdb10 0x2A 0 1) 3 (zeros 512)
+
+-- READ CAPACITY(16) of 32 bytes
+unfoldable pub asksCapacity : Call
+asksCapacity = showing (0x9E ∷ 0x10 ∷ (zeros 11 ++ (32 ∷ 0 ∷ 0 ∷ []))) 3 []

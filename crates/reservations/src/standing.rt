@@ -1,6 +1,7 @@
 // The rights as a whole: which are valid, who holds, when a reservation ends, the generation.
 ghost use mathlib.Core.Path.{_≡_};
-ghost use Rattle.rights.specs.Rights.{holds, holderKey, stands, rightsOk, withPlaces, withReservation, withGeneration, held, gone, ended, settled, raised, noRights};
+ghost use Rattle.rights.specs.Rights.{holds, holderKey, stands, rightsOk, withPlaces, withReservation};
+ghost use Rattle.rights.specs.Rights.{withGeneration, held, gone, ended, settled, raised, noRights};
 use crate::kinds;
 use crate::places;
 use crate::places::Want;

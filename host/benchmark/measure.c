@@ -121,6 +121,9 @@ static const struct operation operations[] = {
      .cdb = {0x5F, 3, 0, [8] = LIST_BYTES}},
     {"RESERVE OUT, PREEMPT of the holder", OUT, .nexus = 0, .key = 0x10,
      .action_key = 0x17, .cdb = {0x5F, 4, 3, [8] = LIST_BYTES}},
+    {"RESERVE OUT, PREEMPT of 8 registrants by the key 0", FULL, .places = 8,
+     .type = 7, .nexus = 7, .sends = KEYS, .moved = LIST_BYTES, .key = 0x17,
+     .cdb_bytes = 10, .cdb = {0x5F, 4, 3, [8] = LIST_BYTES}},
 };
 enum { OPERATIONS = sizeof operations / sizeof operations[0] };
 

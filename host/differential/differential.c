@@ -16,8 +16,8 @@
  * reasons that come first in 01's order).
  *
  * Exit status: 0 no difference and every answer met often enough; 1 a
- * difference, which is printed; 2 an answer, command or damage too rare (asked
- * of long runs alone), bad usage.
+ * difference, which is printed; 2 an answer, command, take-over or damage too
+ * rare (asked of long runs alone), bad usage.
  */
 
 #include <inttypes.h>
@@ -92,6 +92,10 @@ struct figures {
     uint64_t by_code[256];
     uint64_t good_by_code[256];
     uint64_t good_actions[32];
+    /* PREEMPT with service action key 0, by type held and type named: taken
+       over; by type held: refused by 5, which in PREEMPT has no other cause. */
+    uint64_t taken_over[16][16];
+    uint64_t zero_keys_refused[16];
 };
 
 struct run {
@@ -399,6 +403,20 @@ static void count_large(struct run *run, uint8_t code)
         run->figures.large_writes++;
 }
 
+static void count_preempt(struct run *run)
+{
+    static const uint8_t zero_key[8];
+    const uint8_t *action_key = run->before.data_out + 8;
+    uint32_t held = run->before.unit.rights.type & 15;
+    uint8_t named = run->before.cdb[2] & 15;
+
+    if (run->second.answer == RIDGE_LIST_FIELD)
+        run->figures.zero_keys_refused[held]++;
+    if (run->second.answer == RIDGE_GOOD &&
+        memcmp(action_key, zero_key, sizeof zero_key) == 0)
+        run->figures.taken_over[held][named]++;
+}
+
 static void count_call(struct run *run)
 {
     struct figures *figures = &run->figures;
@@ -410,13 +428,18 @@ static void count_call(struct run *run)
     figures->good_by_code[code] += good ? 1 : 0;
     if (code == 0x5F && good)
         figures->good_actions[run->request.cdb[1] & 0x1F]++;
+    if (code == 0x5F && (run->request.cdb[1] & 0x1F) == 4)
+        count_preempt(run);
     if (good)
         count_large(run, code);
 }
 
+/* Types 7 and 8 stand seldom, and much of what is rare wants them. */
 static void one_call(struct run *run)
 {
-    if (random_percent(&run->random, 4))
+    unsigned rare = run->store.unit.rights.type >= 7 ? 12 : 5;
+
+    if (random_percent(&run->random, rare))
         generate_rare(&run->random, &run->store, &run->request);
     else
         generate_request(&run->random, &run->store,
@@ -570,6 +593,36 @@ static bool print_large(const struct figures *figures, uint64_t floor)
     return enough;
 }
 
+/* One row of a table by reservation type; each type listed must be met. */
+static bool print_types(const char *name, const uint64_t counts[16],
+                        const uint8_t *types, size_t count, uint64_t floor)
+{
+    bool enough = true;
+
+    printf("%s:", name);
+    for (size_t index = 0; index < count; index++)
+        printf(" %u: %" PRIu64, types[index], counts[types[index]]);
+    printf("\n");
+    for (size_t index = 0; index < count; index++)
+        enough &= often_enough(name, counts[types[index]], floor);
+    return enough;
+}
+
+static bool print_zero_keys(const struct figures *figures, uint64_t floor)
+{
+    static const uint8_t refused[] = {0, 1, 3, 5, 6};
+    static const uint8_t named[] = {1, 3, 5, 6, 7, 8};
+    bool enough = print_types("PREEMPT with key 0 refused by type held",
+                              figures->zero_keys_refused, refused,
+                              sizeof refused, floor);
+
+    enough &= print_types("taken over under 7 by type named",
+                          figures->taken_over[7], named, sizeof named, floor);
+    enough &= print_types("taken over under 8 by type named",
+                          figures->taken_over[8], named, sizeof named, floor);
+    return enough;
+}
+
 static bool print_damages(const struct figures *figures, uint64_t floor)
 {
     bool enough = true;
@@ -608,6 +661,7 @@ static bool print_figures(const struct figures *figures)
 
     enough &= print_commands(figures, floor);
     enough &= print_large(figures, floor);
+    enough &= print_zero_keys(figures, floor / 20);
     enough &= print_damages(figures, floor / 2);
     return enough;
 }

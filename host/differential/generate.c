@@ -717,11 +717,11 @@ void generate_reserve_out(struct random *random, const struct store *store,
 }
 
 /*
- * Answer 6 wants all places used and a stranger that registers, 7 a holder that
- * names another type: chance alone seldom gives either.
+ * A REGISTER mostly by a stranger, or a RELEASE by a holder: the one meets
+ * answer 6 where all places are used, the other 7 where it names another type.
  */
-void generate_rare(struct random *random, const struct store *store,
-                   struct request *request)
+static void make_refused(struct random *random, const struct store *store,
+                         struct request *request)
 {
     const struct ridge_rights *rights = &store->unit.rights;
     bool release = rights->type != 0 && random_percent(random, 50);
@@ -736,4 +736,40 @@ void generate_rare(struct random *random, const struct store *store,
     put(request->data_out, 8, random_percent(random, 85)
                                   ? key_of(rights, nexus)
                                   : generate_key(random));
+}
+
+/*
+ * A stranger mostly gives 0, the key of an unused place, and a wrong key is
+ * often that of another: a library that looks for the sender's key in the wrong
+ * place serves them.
+ */
+void generate_take_over(struct random *random, const struct store *store,
+                        struct request *request)
+{
+    const struct ridge_rights *rights = &store->unit.rights;
+    size_t place = generate_place(random, rights, true);
+    uint64_t nexus = random_below(random, RIDGE_NEXUS_LAST + 1);
+
+    if (place != RIDGE_PLACES && random_percent(random, 80))
+        nexus = rights->places[place].nexus;
+    generate_reserve_out(random, store, nexus, request);
+    request->cdb[1] = (uint8_t)((request->cdb[1] & 0xE0) | 4);
+    request->cdb[2] = (uint8_t)RANDOM_CHOICE(random, 1, 3, 5, 6, 7, 8);
+    put(request->data_out, 8, random_percent(random, 80)
+                                  ? key_of(rights, nexus)
+                                  : generate_action_key(random, rights));
+    if (random_percent(random, 70))
+        put(request->data_out + 8, 8, 0);
+}
+
+/* What chance alone seldom gives; a take-over wants type 7 or 8 to stand. */
+void generate_rare(struct random *random, const struct store *store,
+                   struct request *request)
+{
+    unsigned share = store->unit.rights.type >= 7 ? 65 : 15;
+
+    if (random_percent(random, share))
+        generate_take_over(random, store, request);
+    else
+        make_refused(random, store, request);
 }

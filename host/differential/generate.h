@@ -100,7 +100,13 @@ void generate_request(struct random *random, const struct store *store,
 void generate_reserve_out(struct random *random, const struct store *store,
                           uint64_t nexus, struct request *request);
 
-/* A reservation-out call, by a nexus chosen to meet answers 6 and 7. */
+/* PREEMPT, mostly with service action key 0 and mostly by a registered nexus
+   that gives its key: under types 7 and 8 it takes over. Any type is named. */
+void generate_take_over(struct random *random, const struct store *store,
+                        struct request *request);
+
+/* A reservation-out call made to meet answers 6 and 7, or one that takes
+   over. */
 void generate_rare(struct random *random, const struct store *store,
                    struct request *request);
 

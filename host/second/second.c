@@ -1,10 +1,11 @@
 /*
- * second.c - a second implementation of the unit, written from the product
- * paper alone and independent of the proved library. The tests run both on the
- * same calls; the speed figures take it as their baseline.
+ * second.c - a second implementation of the unit, written from the papers
+ * alone and independent of the proved library. It follows 01, with request Q-3
+ * of 02. The tests run both on the same calls; the speed figures take it as
+ * their baseline.
  *
  * Plain C11: no heap, no globals but constant tables. The order of the tests in
- * each function is the paper's order, since the first that fails is the answer.
+ * each function is the papers' order, since the first that fails is the answer.
  */
 
 #include "second.h"
@@ -673,13 +674,38 @@ static void remove_key(struct ridge_rights *rights, uint64_t key,
     }
 }
 
+static void remove_others(struct ridge_rights *rights, size_t spared)
+{
+    for (size_t place = 0; place < RIDGE_PLACES; place++) {
+        if (place != spared)
+            empty_place(rights, place);
+    }
+}
+
+/*
+ * PREEMPT with service action key 0. Where all registrants hold, no one key is
+ * the holder's, and 0 stands for all of them: the sender, whose own key was
+ * right, takes over from the others. Elsewhere 0 is nobody's key.
+ */
+static uint64_t take_over(struct call *call, const struct order *order)
+{
+    struct ridge_rights *rights = &call->unit->rights;
+
+    if (!is_for_all(rights->type))
+        return RIDGE_LIST_FIELD;
+    remove_others(rights, order->place);
+    make_reservation(call, order->type);
+    raise_generation(rights);
+    return RIDGE_GOOD;
+}
+
 static uint64_t preempt(struct call *call, const struct order *order)
 {
     struct ridge_rights *rights = &call->unit->rights;
     uint32_t held = rights->type;
 
     if (order->action_key == 0)
-        return RIDGE_LIST_FIELD;
+        return take_over(call, order);
     if (!somebody_has(rights, order->action_key))
         return RIDGE_CONFLICT;
     if (held != RESERVATION_NONE && !is_for_all(held) &&

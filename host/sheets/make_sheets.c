@@ -132,24 +132,81 @@ static bool make_edge(unsigned long number, struct sheet *sheet)
 
 /* ---- The random ones ---- */
 
-/* The REGISTER of a nexus not yet registered, under a key of its own. */
-static void make_registration(uint8_t nexus, struct request *request)
+/* A reservation-out call with nothing but zeros in its list. */
+static void make_reserve_out(uint8_t nexus, uint8_t action, uint8_t type,
+                             struct request *request)
 {
-    static const uint8_t cdb[10] = {0x5F, 0, 0, 0, 0, 0, 0, 0, 24, 0};
+    const uint8_t cdb[10] = {0x5F, action, type, 0, 0, 0, 0, 0, 24, 0};
 
     request->nexus = nexus;
     memcpy(request->cdb, cdb, sizeof cdb);
     request->cdb_bytes = sizeof cdb;
     memset(request->data_out, 0, 24);
-    request->data_out[15] = (uint8_t)(nexus + 1);
     request->data_out_bytes = 24;
+}
+
+/* The REGISTER of a nexus not yet registered, under a key of its own. */
+static void make_registration(uint8_t nexus, struct request *request)
+{
+    make_reserve_out(nexus, 0, 0, request);
+    request->data_out[15] = (uint8_t)(nexus + 1);
+}
+
+/* The RESERVE of a nexus that is registered so. */
+static void make_reservation(uint8_t nexus, uint8_t type,
+                             struct request *request)
+{
+    make_reserve_out(nexus, 1, type, request);
+    request->data_out[7] = (uint8_t)(nexus + 1);
+}
+
+/* How a history begins: so many register, and the last of them reserves that
+   type, unless it is 0. */
+struct opening {
+    uint8_t registrations;
+    uint8_t type;
+};
+
+/*
+ * In one of eight all places are used, so that there is no room for more. In
+ * two a few register and one reserves, mostly for all of them: left to itself a
+ * history is seldom long enough to come to a reservation and to its end.
+ */
+static struct opening make_opening(struct random *random)
+{
+    struct opening opening = {0, 0};
+    uint64_t kind = random_below(random, 8);
+
+    if (kind == 0)
+        opening.registrations = RIDGE_PLACES;
+    if (kind == 1 || kind == 2) {
+        opening.registrations = (uint8_t)(1 + random_below(random, 5));
+        opening.type =
+            (uint8_t)RANDOM_CHOICE(random, 1, 3, 5, 6, 7, 7, 7, 8, 8, 8);
+    }
+    return opening;
+}
+
+/* Makes the call of that number from 0; false if the opening is over. */
+static bool make_opening_call(struct opening opening, size_t number,
+                              struct request *request)
+{
+    if (number < opening.registrations)
+        make_registration((uint8_t)number, request);
+    else if (number == opening.registrations && opening.type != 0)
+        make_reservation((uint8_t)(number - 1), opening.type, request);
+    else
+        return false;
+    return true;
 }
 
 /* The next call of a history; its nexus fits the sheet's byte. */
 static void make_call(struct random *random, const struct store *store,
                       struct request *request)
 {
-    if (random_percent(random, 10))
+    unsigned rare = store->unit.rights.type >= 7 ? 30 : 10;
+
+    if (random_percent(random, rare))
         generate_rare(random, store, request);
     else
         generate_request(random, store,
@@ -171,17 +228,14 @@ static void execute(struct store *store, const struct request *request)
         data_in, sizeof data_in, sense, sizeof sense, &returned)]++;
 }
 
-/*
- * A history on a fresh store. In one of eight all places are used first, so
- * that there is no room for more.
- */
+/* A history on a fresh store. */
 static void make_history(struct random *random, struct sheet *sheet)
 {
     static struct making making;
     static struct store store;
     static struct request request;
     size_t calls = random_below(random, SHEET_CALLS + 1);
-    bool crowded = random_below(random, 8) == 0;
+    struct opening opening = make_opening(random);
 
     making.calls = 0;
     making.bytes = 0;
@@ -189,9 +243,7 @@ static void make_history(struct random *random, struct sheet *sheet)
     store.slots = BENCH_SLOTS;
     second_fresh(BENCH_CAPACITY, &store.unit, store.owners, store.slots);
     for (size_t index = 0; index < calls; index++) {
-        if (crowded && index < RIDGE_PLACES)
-            make_registration((uint8_t)index, &request);
-        else
+        if (!make_opening_call(opening, index, &request))
             make_call(random, &store, &request);
         if (1 + 4 * calls + making.bytes + request.cdb_bytes +
                 request.data_out_bytes > SHEET_BYTES)

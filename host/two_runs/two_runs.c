@@ -56,6 +56,9 @@ struct figures {
     uint64_t other_good_writes;
     uint64_t shut_out_codes[256];
     uint64_t shut_out_answers[16];
+    uint64_t take_overs;   /* PREEMPT with key 0 that was served */
+    uint64_t shutting_out; /* of these, such as shut somebody out */
+    uint64_t removed_calls;
 };
 
 struct run {
@@ -66,6 +69,8 @@ struct run {
     struct request request;
     uint8_t data_in[DATA_ROOM];
     uint8_t sense[SENSE_ROOM];
+    /* Whom a take-over removed, in this pair; not if registered since. */
+    bool removed[RIDGE_NEXUS_LAST + 1];
     struct figures figures;
 };
 
@@ -181,14 +186,63 @@ static void common_call(struct run *run)
         fail(run, "a shut-out call has changed the record");
 }
 
+/* Whether the reservation-out call in hand was a take-over, and served. */
+static bool has_taken_over(const struct run *run)
+{
+    static const uint8_t zero_key[8];
+    const struct request *request = &run->request;
+
+    return run->left.answer == RIDGE_GOOD && (request->cdb[1] & 0x1F) == 4 &&
+           memcmp(request->data_out + 8, zero_key, sizeof zero_key) == 0;
+}
+
+/* Whether the call in hand shut out somebody who was not before it. */
+static bool has_shut_out(const struct run *run)
+{
+    const struct ridge_rights *before = &run->left.before.unit.rights;
+    const struct ridge_rights *after = &run->left.store.unit.rights;
+
+    for (uint64_t nexus = 0; nexus <= RIDGE_NEXUS_LAST; nexus++) {
+        if (is_shut_out(after, nexus) && !is_shut_out(before, nexus))
+            return true;
+    }
+    return false;
+}
+
+/* Keeps up, after a reservation-out call, whom a take-over removed. */
+static void follow_removed(struct run *run)
+{
+    const struct ridge_rights *before = &run->left.before.unit.rights;
+    const struct ridge_rights *after = &run->left.store.unit.rights;
+    bool taken_over = has_taken_over(run);
+
+    for (uint64_t nexus = 0; nexus <= RIDGE_NEXUS_LAST; nexus++) {
+        if (taken_over && key_of(before, nexus) != 0)
+            run->removed[nexus] = true;
+        if (key_of(after, nexus) != 0)
+            run->removed[nexus] = false;
+    }
+}
+
+/* Made up from the left store: what counts for it is the same in both. */
 static void out_call(struct run *run)
 {
-    uint64_t nexus =
-        generate_nexus(&run->random, &run->left.store.unit.rights);
+    const struct store *store = &run->left.store;
+    unsigned share = store->unit.rights.type >= 7 ? 40 : 10;
 
-    generate_reserve_out(&run->random, &run->left.store, nexus, &run->request);
+    if (random_percent(&run->random, share))
+        generate_take_over(&run->random, store, &run->request);
+    else
+        generate_reserve_out(&run->random, store,
+                             generate_nexus(&run->random, &store->unit.rights),
+                             &run->request);
     common_call(run);
+    follow_removed(run);
     run->figures.out_calls++;
+    if (has_taken_over(run)) {
+        run->figures.take_overs++;
+        run->figures.shutting_out += has_shut_out(run) ? 1 : 0;
+    }
 }
 
 /* A call by a nexus that is shut out, made up from either store. */
@@ -207,6 +261,10 @@ static void shut_out_call(struct run *run)
     }
     generate_request(&run->random, store, nexus, &run->request);
     common_call(run);
+    if (nexus <= RIDGE_NEXUS_LAST && run->removed[nexus])
+        run->figures.removed_calls++;
+    if (is_reserve_out(&run->request))
+        follow_removed(run);
     run->figures.shut_out_calls++;
     run->figures.shut_out_codes[run->request.cdb[0]]++;
     run->figures.shut_out_answers[run->left.answer & 15]++;
@@ -241,13 +299,15 @@ static void make_pair(struct run *run)
 
     generate_store(&run->random, left);
     if (random_percent(&run->random, 80))
-        generate_reservation(&run->random, &left->unit.rights,
-                             (uint32_t)RANDOM_CHOICE(&run->random, 3, 6, 8));
+        generate_reservation(
+            &run->random, &left->unit.rights,
+            (uint32_t)RANDOM_CHOICE(&run->random, 3, 3, 6, 6, 7, 8, 8));
     right->unit = left->unit;
     right->slots = generate_slots(&run->random);
     generate_map(&run->random, right);
     run->left.before.slots = left->slots;
     run->right.before.slots = right->slots;
+    memset(run->removed, 0, sizeof run->removed);
     run->figures.pairs++;
 }
 
@@ -288,8 +348,14 @@ static bool print_figures(const struct figures *figures)
     enough &= print_count("pairs", figures->pairs, steps / STEPS_OF_PAIR);
     enough &= print_count("reservation-out calls compared",
                           figures->out_calls, steps / 10);
+    enough &= print_count("of these take-overs", figures->take_overs,
+                          steps / 1000);
+    enough &= print_count("of these shutting somebody out",
+                          figures->shutting_out, steps / 2000);
     enough &= print_count("shut-out calls compared", figures->shut_out_calls,
                           steps / 10);
+    enough &= print_count("of these by one that a take-over removed",
+                          figures->removed_calls, steps / 1000);
     enough &= print_count("of these READ", codes[0x28] + codes[0x88],
                           steps / 100);
     enough &= print_count("of these WRITE", codes[0x2A] + codes[0x8A],

@@ -1,7 +1,7 @@
 -- What the six actions decide, case by case, as the code meets them.
 -- Assumes nothing.
 use mathlib.Core.Path.{_≡_, sym, _∙_}
-use mathlib.Core.Bool.{true, false}
+use mathlib.Core.Bool.{true, false, not}
 use mathlib.Core.List.{[], _∷_}
 use Prim.Native.Nat.{ℕ}
 use lib.Dec.{T, eqb}
@@ -15,8 +15,8 @@ use Rattle.rights.specs.declared.Parameters.{Parameters}
 use Rattle.rights.specs.declared.Decision.{Decision}
 use Rattle.rights.specs.declared.Action.the-variants.{Register, Reserve, Release, Clear, Preempt, RegisterIgnoring}
 use Rattle.rights.specs.Places.{keyOf, known}
-use Rattle.rights.specs.Rights.{holds, held, ended}
-use Rattle.rights.specs.Actions.{registerFlags, flagRows, stranger, keyWrong, crowded, actionRows, decisionRows, registering, reserving, releasing, clearing, preempting, acted, decided}
+use Rattle.rights.specs.Rights.{allHold, holds, held, ended}
+use Rattle.rights.specs.Actions.{registerFlags, flagRows, stranger, keyWrong, crowded, actionRows, decisionRows, registering, reserving, releasing, clearing, preempting, takingOver, acted, decided}
 use Rattle.rights.proofs.DecisionLaws.{flags-refused, flags-passed}
 use Rattle.actions.specs.Decided.{decidedBy}
 
@@ -109,8 +109,8 @@ module _ (r : Rights) (n : ℕ) (o : Parameters) where
     unfolding decided decisionRows flagRows keyWrong actionRows acted firstOf ifGoodBy refuses
     clear-done = simp s
 
-    pub preempt-zero : eqb (o .service) 0 ≡ true → decided Preempt r n o ≡ decision listField r
-    unfolding decided decisionRows flagRows keyWrong actionRows firstOf ifGoodBy refuses
+    pub preempt-zero : eqb (o .service) 0 ≡ true → decided Preempt r n o ≡ decidedBy (listField if not (allHold (r .kind)) ∷ []) (takingOver r n (o .kind)) r
+    unfolding decided decidedBy decisionRows flagRows keyWrong actionRows acted firstOf
     preempt-zero e = simp (s, e)
 
     pub preempt-unknown : eqb (o .service) 0 ≡ false → known (o .service) (r .places) ≡ false → decided Preempt r n o ≡ decision Conflict r

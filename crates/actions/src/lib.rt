@@ -1,13 +1,16 @@
 // The six actions of PERSISTENT RESERVE OUT: each tests what its rows test, in their order, and then changes the rights.
 ghost use mathlib.Core.Path.{_≡_};
+ghost use mathlib.Core.Bool.{not};
 ghost use mathlib.Core.List.{[], _∷_};
 ghost use Rattle.answers.specs.Order.{_if_, first};
-ghost use Rattle.answers.specs.Answers.{noPlace};
+ghost use Rattle.answers.specs.Answers.{listField, noPlace};
 ghost use Rattle.rights.specs.declared.Action.the-variants.{Register, Reserve, Release, Clear, Preempt, RegisterIgnoring};
-ghost use Rattle.rights.specs.Actions.{registerFlags, stranger, crowded, registering, preempting, decided};
+ghost use Rattle.rights.specs.Rights.{allHold};
+ghost use Rattle.rights.specs.Actions.{registerFlags, stranger, crowded, registering, preempting, takingOver, decided};
 ghost use Rattle.actions.specs.Decided.{decidedBy};
 use answers::Answer;
 use fields::numbers;
+use reservations::kinds;
 use reservations::places;
 use reservations::places::Change;
 use reservations::places::Want;
@@ -227,6 +230,24 @@ fn preempting(rights: Rights, nexus: u64, kind: u32, key: u64) -> Rights
     standing::raised(standing::settled(standing::with_places(rights, places)))
 }
 
+// What PREEMPT with the key 0 decides: where all who are registered hold, the sender takes over from them.
+fn take_over(rights: Rights, nexus: u64, kind: u32) -> Decision
+    ensures { λ r. ⌜ r ≡ decidedBy (listField if not (allHold (rights .kind)) ∷ []) (takingOver rights nexus kind) rights ⌝ }
+{
+    if !kinds::all_hold(rights.kind) {
+        let answer = answers::list_field();
+        return Decision { answer, rights };
+    }
+    let old = rights.places;
+    let places = places::change_all(old, Change::Only(nexus));
+    let alone = standing::with_places(rights, places);
+    let after = standing::raised(standing::held(alone, kind, nexus));
+    Decision {
+        answer: Answer::Good,
+        rights: after,
+    }
+}
+
 fn preempt(rights: Rights, nexus: u64, parameters: Parameters) -> Decision
     ensures { λ r. ⌜ r ≡ decided Preempt rights nexus parameters ⌝ }
 {
@@ -237,8 +258,7 @@ fn preempt(rights: Rights, nexus: u64, parameters: Parameters) -> Decision
         };
     }
     if parameters.service == 0 {
-        let answer = answers::list_field();
-        return Decision { answer, rights };
+        return take_over(rights, nexus, parameters.kind);
     }
     let places = rights.places;
     if !places::has(places, Want::Keyed(parameters.service)) {

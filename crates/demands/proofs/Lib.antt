@@ -23,5 +23,7 @@ pub mod Altering
 pub mod Telling
 pub mod Conflicts
 pub mod Reservations
+pub mod ZeroKey
+pub mod TakenOver
 pub mod WrongBuilds
 pub mod Proved

@@ -5,6 +5,8 @@ use Rattle.demands.proofs.Demand1.{demand-1}
 use Rattle.demands.proofs.Demand2.{demand-2}
 use Rattle.demands.proofs.Storage.{storage}
 use Rattle.demands.proofs.Reservations.{reservations}
+use Rattle.demands.proofs.ZeroKey.{zero-key, rules-agree}
+use Rattle.demands.proofs.TakenOver.{fresh-taken-over}
 use Rattle.demands.proofs.Telling.{telling}
 use Rattle.demands.proofs.FromFresh.{from-fresh}
 use Rattle.demands.proofs.Demand3.{demand-3, secrecy}
@@ -16,8 +18,11 @@ proved = record {
   demand-2 = demand-2;
   storage = storage;
   reservations = reservations;
+  zero-key = zero-key;
+  rules-agree = rules-agree;
   telling = telling;
   from-fresh = from-fresh;
+  taken-over = fresh-taken-over;
   demand-3 = demand-3;
   secrecy = secrecy;
   faithful = faithful;

@@ -1,10 +1,10 @@
 -- Reservations as those put it who use them, proved of `step`.
 -- Assumes nothing.
 use mathlib.Core.Path.{_≡_, refl, sym, ap, _∙_, subst}
-use mathlib.Core.Bool.{Bool, not, _&&_, _||_, cond}
+use mathlib.Core.Bool.{Bool, true, false, not, _&&_, _||_, cond}
 use Prim.Native.Nat.{ℕ}
 use lib.Dec.{T, eqb, eqb→eq}
-use Rattle.fields.proofs.Tests.{nand-rest, not-not, by-test, false→T}
+use Rattle.fields.proofs.Tests.{both, or-r, not-map, nand-rest, not-not, test, by-test, false→T}
 use Rattle.answers.specs.declared.Answer.the-variants.{Good, Conflict}
 use Rattle.answers.specs.Answers.{listField, noPlace, otherType}
 use Rattle.answers.specs.Order.{first, refuses}
@@ -14,10 +14,11 @@ use Rattle.rights.specs.declared.Action.{Action}
 use Rattle.rights.specs.declared.Action.the-variants.{Register, Reserve, Release, Clear, Preempt, RegisterIgnoring}
 use Rattle.rights.specs.declared.Parameters.{Parameters}
 use Rattle.rights.specs.Places.{registered, keyOf}
-use Rattle.rights.specs.Rights.{oneHolds, allHold, holds, holderKey, withPlaces, withReservation, withGeneration, held, ended, raised}
-use Rattle.rights.specs.Actions.{keyWrong, crowded, actionRows, registering, reserving, clearing, releasing, preempting, acted}
+use Rattle.rights.specs.Rights.{isType, oneHolds, allHold, holds, holderKey, placesApart, withPlaces, withReservation, withGeneration, held, ended, raised}
+use Rattle.rights.specs.Actions.{keyWrong, crowded, actionRows, registering, reserving, clearing, releasing, preempting, takingOver, acted}
 use Rattle.rights.proofs.Keeping.{makes, known-sender, places-apart, rights-places}
 use Rattle.rights.proofs.Holders.{holder-registered, key-cleared, none-registered, holder-key, holder-is, preempted-key, preempted-kind, preempted-over, preempted-else, preempted-same, reserving-kind, reserving-holds, registering-key, registering-others, registering-holds, registering-kind, unregistering-ends}
+use Rattle.rights.proofs.TakingOver.{taken-key, taken-kind, taken-holds}
 use Rattle.forms.specs.declared.Tell.the-variants.{Keys, Reservation}
 use Rattle.forms.specs.declared.Command.{Command}
 use Rattle.forms.specs.declared.Command.the-variants.{Tells, Moves, Alters}
@@ -51,54 +52,123 @@ module _ (s : Store) (c : Call) (w : AsksFor (Alters Clear) c) (e : IsGood s c) 
 
 -- ---- PREEMPT
 
+-- where the key 0 takes over, the sender alone is spared
+spared-alone : (k z o x : Bool) (key : ℕ) → T z → T o → cond x key 0 ≡ cond ((k || z) && not (o && x)) 0 key
+spared-alone true true true true key s t = refl
+spared-alone true true true false key s t = refl
+spared-alone false true true true key s t = refl
+spared-alone false true true false key s t = refl
+spared-alone k false o x key s t = absurd s
+spared-alone k true false x key s t = absurd t
+
+-- and where the key is not 0, those with the key are named
+named-alone : (k z o x : Bool) (key : ℕ) → T (not z) → cond (k && not (o && x)) 0 key ≡ cond ((k || z) && not (o && x)) 0 key
+named-alone k true o x key s = absurd s
+named-alone true false o x key s = refl
+named-alone false false o x key s = refl
+
+not-zero : (a b z : Bool) → T (not z) → a ≡ (a || (b && z))
+not-zero a b true t = absurd t
+not-zero true b false t = refl
+not-zero false true false t = refl
+not-zero false false false t = refl
+
+one-way : (b : Bool) (x y : Rights) → T b → cond b x y ≡ x
+one-way true x y t = refl
+one-way false x y t = absurd t
+
+other-way : (b : Bool) (x y : Rights) → T (not b) → cond b x y ≡ y
+other-way true x y t = absurd t
+other-way false x y t = refl
+
 module _ (s : Store) (c : Call) (w : AsksFor (Alters Preempt) c) (e : IsGood s c) where
-  named-key : T (not (eqb (serviceKey c) 0))
-  unfolding serviceKey parametersOf actionRows refuses
-  named-key = false→T _ (row-fails listField _ _ tt (altered-own Preempt s c w e))
-
-  over-is : eqb (holderKey (s .unit .rights)) (serviceKey c) ≡ takesOver s c
-  unfolding takesOver typeIn keyIn
-  over-is = holder-key (s .unit .rights) (serviceKey c) named-key
-
-  preempted : after step s c .unit .rights ≡ preempting (s .unit .rights) (c .nexus) (w .request .kind) (serviceKey c)
+  preempted : after step s c .unit .rights
+      ≡ cond (eqb (serviceKey c) 0) (takingOver (s .unit .rights) (c .nexus) (w .request .kind))
+      (preempting (s .unit .rights) (c .nexus) (w .request .kind) (serviceKey c))
   unfolding acted parametersOf serviceKey
   preempted = altered Preempt s c w e
+
+  pub places-distinct : T (placesApart (s .unit .rights .places))
+  places-distinct = places-apart _ (rights-places (s .unit .rights) (altered-ok Preempt s c w e))
+
+  pub named-type : T (isType (w .request .kind))
+  unfolding makes
+  named-type = altered-type Preempt s c w e tt
+
+  -- the key 0 takes over, since it is refused but under 7 and 8
+  module _ (z : T (eqb (serviceKey c) 0)) where
+    pub taken : after step s c .unit .rights ≡ takingOver (s .unit .rights) (c .nexus) (w .request .kind)
+    taken = preempted ∙ one-way (eqb (serviceKey c) 0) _ _ z
+
+    for-all : T (allHold (typeIn s))
+    unfolding typeIn serviceKey parametersOf actionRows refuses
+    for-all =
+        not-not (allHold (s .unit .rights .kind)) (nand-rest (eqb (serviceKey c) 0) (not (allHold (s .unit .rights .kind))) z
+        (false→T _ (row-fails listField _ _ tt (altered-own Preempt s c w e))))
+
+    pub zero-over : T (takesOver s c)
+    unfolding takesOver
+    zero-over =
+        or-r (oneHolds (typeIn s) && eqb (keyIn s (s .unit .rights .holder)) (serviceKey c)) (allHold (typeIn s) && eqb (serviceKey c) 0) (both (allHold (typeIn s)) (eqb (serviceKey c) 0) for-all z)
+
+  -- another key takes over where it is the holder's
+  module _ (z : T (not (eqb (serviceKey c) 0))) where
+    by-key : after step s c .unit .rights ≡ preempting (s .unit .rights) (c .nexus) (w .request .kind) (serviceKey c)
+    by-key = preempted ∙ other-way (eqb (serviceKey c) 0) _ _ z
+
+    over-is : eqb (holderKey (s .unit .rights)) (serviceKey c) ≡ takesOver s c
+    unfolding takesOver typeIn keyIn
+    over-is = holder-key (s .unit .rights) (serviceKey c) z ∙ not-zero _ (allHold (s .unit .rights .kind)) (eqb (serviceKey c) 0) z
 
   pub preempt-registrations : (n : ℕ) → keyIn (after step s c) n ≡ cond (preempts s c n) 0 (keyIn s n)
   unfolding keyIn preempts
   preempt-registrations n =
-      ap (λ (r : Rights). keyOf n (r .places)) preempted
-      ∙ preempted-key (s .unit .rights) (c .nexus) (w .request .kind) (serviceKey c) n (places-apart _ (rights-places (s .unit .rights) (altered-ok Preempt s c w e)))
-      ∙ ap (λ (b : Bool). cond (eqb (keyIn s n) (serviceKey c) && not (b && eqb n (c .nexus))) 0 (keyIn s n)) over-is
+      test (eqb (serviceKey c) 0)
+      (λ z. ap (λ (r : Rights). keyOf n (r .places)) (taken z) ∙ taken-key (s .unit .rights) (c .nexus) (w .request .kind) n
+      ∙ spared-alone (eqb (keyIn s n) (serviceKey c)) (eqb (serviceKey c) 0) (takesOver s c) (eqb n (c .nexus)) (keyIn s n) z (zero-over z))
+      (λ z. ap (λ (r : Rights). keyOf n (r .places)) (by-key z)
+      ∙ preempted-key (s .unit .rights) (c .nexus) (w .request .kind) (serviceKey c) n places-distinct
+      ∙ ap (λ (b : Bool). cond (eqb (keyIn s n) (serviceKey c) && not (b && eqb n (c .nexus))) 0 (keyIn s n)) (over-is z)
+      ∙ named-alone (eqb (keyIn s n) (serviceKey c)) (eqb (serviceKey c) 0) (takesOver s c) (eqb n (c .nexus)) (keyIn s n) z)
 
   module _ (t : T (takesOver s c)) where
-    over : T (eqb (holderKey (s .unit .rights)) (serviceKey c))
-    over = subst T (sym over-is) t
+    over : (z : T (not (eqb (serviceKey c) 0))) → T (eqb (holderKey (s .unit .rights)) (serviceKey c))
+    over z = subst T (sym (over-is z)) t
 
     pub preempt-type : typeIn (after step s c) ≡ w .request .kind
     unfolding typeIn
-    preempt-type = ap (λ (r : Rights). r .kind) preempted ∙ preempted-kind (s .unit .rights) (c .nexus) (w .request .kind) (serviceKey c) over
+    preempt-type =
+        test (eqb (serviceKey c) 0)
+        (λ z. ap (λ (r : Rights). r .kind) (taken z) ∙ taken-kind (s .unit .rights) (c .nexus) (w .request .kind))
+        (λ z. ap (λ (r : Rights). r .kind) (by-key z) ∙ preempted-kind (s .unit .rights) (c .nexus) (w .request .kind) (serviceKey c) (over z))
 
     pub preempt-holders : (n : ℕ) → isHolder (after step s c) n ≡ cond (allHold (w .request .kind)) (isRegistered (after step s c) n) (eqb (c .nexus) n)
-    unfolding isHolder isRegistered makes
+    unfolding isHolder isRegistered
     preempt-holders n =
-        subst (λ (r : Rights). holds r n ≡ cond (allHold (w .request .kind)) (registered n (r .places)) (eqb (c .nexus) n)) (sym preempted)
-        (preempted-over (s .unit .rights) (c .nexus) (w .request .kind) (serviceKey c) n (altered-type Preempt s c w e tt) over)
+        test (eqb (serviceKey c) 0)
+        (λ z. subst Held (sym (taken z)) (taken-holds (s .unit .rights) (c .nexus) (w .request .kind) n named-type))
+        (λ z. subst Held (sym (by-key z)) (preempted-over (s .unit .rights) (c .nexus) (w .request .kind) (serviceKey c) n named-type (over z)))
+      where
+        Held : Rights → Type 0
+        Held r = holds r n ≡ cond (allHold (w .request .kind)) (registered n (r .places)) (eqb (c .nexus) n)
 
   module _ (t : T (not (takesOver s c))) where
+    not-taken : T (not (eqb (serviceKey c) 0))
+    not-taken = not-map (takesOver s c) (eqb (serviceKey c) 0) zero-over t
+
     not-over : T (not (eqb (holderKey (s .unit .rights)) (serviceKey c)))
-    not-over = subst (λ (b : Bool). T (not b)) (sym over-is) t
+    not-over = subst (λ (b : Bool). T (not b)) (sym (over-is not-taken)) t
 
     pub preempt-holders-left : (n : ℕ) → isHolder (after step s c) n ≡ (isHolder s n && isRegistered (after step s c) n)
     unfolding isHolder isRegistered
     preempt-holders-left n =
-        subst (λ (r : Rights). holds r n ≡ (holds (s .unit .rights) n && registered n (r .places))) (sym preempted)
+        subst (λ (r : Rights). holds r n ≡ (holds (s .unit .rights) n && registered n (r .places))) (sym (by-key not-taken))
         (preempted-else (s .unit .rights) (c .nexus) (w .request .kind) (serviceKey c) n not-over)
 
     pub preempt-type-left : (n : ℕ) → T (isHolder (after step s c) n) → typeIn (after step s c) ≡ typeIn s
     unfolding isHolder typeIn
     preempt-type-left n =
-        subst (λ (r : Rights). T (holds r n) → r .kind ≡ s .unit .rights .kind) (sym preempted)
+        subst (λ (r : Rights). T (holds r n) → r .kind ≡ s .unit .rights .kind) (sym (by-key not-taken))
         (preempted-same (s .unit .rights) (c .nexus) (w .request .kind) (serviceKey c) n not-over)
 
 -- ---- RESERVE

@@ -48,7 +48,8 @@ pub record Demand1 (f : Build) : Type 0 where
   pub owners-length : (s : Store) (c : Call) → length (after f s c .pool .owners) ≡ length (s .pool .owners)
   pub medium-length : (s : Store) (c : Call) → length (after f s c .pool .medium) ≡ length (s .pool .medium)
 
--- Demand 2. "Every answer and the whole state after it are what SPC and SBC define, as document 01 condenses them": its meaning is `step`.
+-- Demand 2. "Every answer and the whole state after it are what SPC and SBC define, as document 01 condenses them" and the
+-- requests that have landed correct it: its meaning is `step`.
 pub record Demand2 (f : Build) : Type 0 where
   pub exact : (s : Store) (c : Call) → f s c ≡ step s c
   -- "A to L are proved of the definitions by one statement over their list"

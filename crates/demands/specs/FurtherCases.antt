@@ -78,6 +78,27 @@ caseShared =
     ∷ read-10 2 0 1 gives good (zeros 512) ∷ [])
     (made (0 ∷ 0 ∷ []) (places (unused ∷ at 2 0x11 ∷ [])) 6 2 2)
 
+-- PREEMPT with the key 0: 5 but under 7 and 8, after the sender's own 10; there it removes all others, and a sender alone may change the type by it
+unfoldable pub caseZeroKey : Case
+caseZeroKey =
+    caseOf (made (0 ∷ 0 ∷ []) (places (at 1 0x11 ∷ at 2 0x22 ∷ at 3 0x33 ∷ [])) 0 0 0)
+    (out 2 4 3 0x22 0 gives refused 5 0x05 0x26 0x00
+    ∷ out 3 1 5 0x33 0 gives good []
+    ∷ out 3 4 3 0x33 0 gives refused 5 0x05 0x26 0x00
+    ∷ out 3 2 5 0x33 0 gives good []
+    ∷ out 3 1 7 0x33 0 gives good []
+    ∷ out 2 4 8 0x33 0 gives conflicts
+    ∷ out 4 4 8 0 0 gives conflicts
+    ∷ out 2 4 8 0x22 0 gives good []
+    ∷ in-call 3 0 gives good (bytes 4 1 ++ (bytes 4 8 ++ bytes 8 0x22))
+    ∷ in-call 3 1 gives good (bytes 4 1 ++ (bytes 4 16 ++ (bytes 8 0 ++ (zeros 5 ++ (8 ∷ zeros 2)))))
+    ∷ out 2 4 3 0x22 0 gives good []
+    ∷ in-call 3 1 gives good (bytes 4 2 ++ (bytes 4 16 ++ (bytes 8 0x22 ++ (zeros 5 ++ (3 ∷ zeros 2)))))
+    ∷ write-10 1 0 1 (block 0xB0) gives conflicts
+    ∷ read-10 3 0 1 gives conflicts
+    ∷ out 2 4 3 0x22 0 gives refused 5 0x05 0x26 0x00 ∷ [])
+    (made (0 ∷ 0 ∷ []) (places (unused ∷ at 2 0x22 ∷ [])) 3 2 2)
+
 -- a mapped block keeps its slot and its bytes, and a new one gets the slot that is free
 unfoldable pub caseSlots : Case
 caseSlots =
@@ -288,5 +309,5 @@ caseMostWritten = caseOf (freshStore 128 128 (replicate 65536 0xEE))
 
 unfoldable pub furtherCases : List Case
 furtherCases =
-    caseCounts ∷ caseNinth ∷ caseGeneration ∷ caseGone ∷ caseShared ∷ caseSlots ∷ caseUnmap ∷ caseConsidered ∷ caseFields
+    caseCounts ∷ caseNinth ∷ caseGeneration ∷ caseGone ∷ caseShared ∷ caseZeroKey ∷ caseSlots ∷ caseUnmap ∷ caseConsidered ∷ caseFields
     ∷ caseTold ∷ caseControl ∷ caseFirstByte ∷ caseFlags ∷ caseTypes ∷ caseLent ∷ caseMost ∷ []

@@ -13,5 +13,6 @@ pub mod AtC
 pub mod FromFresh
 pub mod Reservations
 pub mod Telling
+pub mod ZeroKey
 pub mod WrongBuilds
 pub mod Proved

@@ -14,6 +14,7 @@ use Rattle.demands.specs.History.{machine}
 use Rattle.demands.specs.Contents.{plain}
 use Rattle.demands.specs.Demands.{Demand1, Demand2, Storage, Demand3, Secrecy}
 use Rattle.demands.specs.Reservations.{Reservations}
+use Rattle.demands.specs.ZeroKey.{ZeroKey, RulesAgree, Story, TakenOver}
 use Rattle.demands.specs.Telling.{Telling}
 use Rattle.demands.specs.FromFresh.{FromFresh}
 use Rattle.demands.specs.AtC.{Faithful, Demand1AtC, Demand3AtC}
@@ -21,14 +22,18 @@ use Rattle.demands.specs.AtC.{Faithful, Demand1AtC, Demand3AtC}
 pub record Proved : Type 0 where
   -- every call gets a listed answer, and a refusal changes nothing
   pub demand-1 : Demand1 step
-  -- every answer and the whole state after it are what the rules say; and so it looks to those who write and read, who reserve, and who ask
+  -- every answer and the whole state after it are what the rules say; and so it looks to those who write and read, who reserve, who take over, and who ask
   pub demand-2 : Demand2 step
   pub storage : Storage
   pub reservations : Reservations step
+  pub zero-key : ZeroKey step
+  pub rules-agree : RulesAgree
   pub telling : Telling step
   -- step by step from a fresh store
   pub from-fresh : (capacity slots : ℕ) (medium : List ℕ) → T (capacityOk capacity) → T (slotsOk slots) → length medium ≡ blockBytes * slots
       → FromFresh (freshStore capacity slots medium)
+  pub taken-over : (capacity slots : ℕ) (medium : List ℕ) → T (capacityOk capacity) → T (slotsOk slots) → length medium ≡ blockBytes * slots
+      → (t : Story) → TakenOver step (freshStore capacity slots medium) t
   -- nexuses shut out from reading learn nothing of blocks and maps
   pub demand-3 : Demand3 step
   pub secrecy : Secrecy (machine step) plain

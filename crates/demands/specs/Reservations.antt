@@ -48,13 +48,14 @@ typeIn s = s .unit .rights .kind
 
 -- ---- PREEMPT
 
--- "If it is the holder's key under 1, 3, 5, 6"
+-- "If it is the holder's key under 1, 3, 5, 6"; and by Q-3 "under types 7 and 8 a zero key"
 unfoldable pub takesOver : Store → Call → Bool
-takesOver s c = oneHolds (typeIn s) && eqb (keyIn s (s .unit .rights .holder)) (serviceKey c)
+takesOver s c =
+    (oneHolds (typeIn s) && eqb (keyIn s (s .unit .rights .holder)) (serviceKey c)) || (allHold (typeIn s) && eqb (serviceKey c) 0)
 
--- "all with that key but the sender are removed …. Else all with that key are removed, the sender too."
+-- "all with that key but the sender are removed …. Else all with that key are removed, the sender too."; a zero key names everybody
 unfoldable pub preempts : Store → Call → ℕ → Bool
-preempts s c n = eqb (keyIn s n) (serviceKey c) && not (takesOver s c && eqb n (c .nexus))
+preempts s c n = (eqb (keyIn s n) (serviceKey c) || eqb (serviceKey c) 0) && not (takesOver s c && eqb n (c .nexus))
 
 -- ---- whose registrations an action may change
 

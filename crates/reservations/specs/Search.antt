@@ -8,9 +8,9 @@ use Rattle.rights.specs.declared.Place.{Place}
 use Rattle.reservations.specs.declared.places.Want.{Want}
 use Rattle.reservations.specs.declared.places.Want.the-variants.{Of, Keyed, Used, Free}
 use Rattle.reservations.specs.declared.places.Change.{Change}
-use Rattle.reservations.specs.declared.places.Change.the-variants.{Rekey, Remove, RemoveBut, Empty}
+use Rattle.reservations.specs.declared.places.Change.the-variants.{Rekey, Remove, RemoveBut, Only, Empty}
 use Rattle.rights.specs.Rights.{placeOk}
-use Rattle.rights.specs.Places.{used, unused, isOf, registered, known, somebody, vacant, rekeyed, without, nobody, sender}
+use Rattle.rights.specs.Places.{used, unused, isOf, registered, known, somebody, vacant, rekeyed, without, nobody, sender, alone}
 
 -- is this place wanted
 unfoldable pub wants : Want → Place → Bool
@@ -36,6 +36,7 @@ abbrev pub after : Change → Place → Place
 after (Rekey n k) = rekeyed n k
 after (Remove k) = without nobody k
 after (RemoveBut k n) = without (sender n) k
+after (Only n) = alone n
 after Empty = λ p. unused
 
 -- a place that holds what it may, and whose nexus no later place has

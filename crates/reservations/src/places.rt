@@ -103,11 +103,12 @@ pub fn enrol(
     after
 }
 
-// What is done to every place: the key of a nexus changed (0 unregisters), all with a key removed, all but a nexus, or all emptied.
+// What is done to every place: the key of a nexus changed (0 unregisters), all with a key removed, those but a nexus, all but a nexus, or all emptied.
 pub enum Change {
     Rekey(u64, u64),
     Remove(u64),
     RemoveBut(u64, u64),
+    Only(u64),
     Empty,
 }
 
@@ -138,6 +139,11 @@ fn changed(place: Place, change: Change) -> Place
             }
             if place.key == key { none } else { place }
         }
+        Change::Only(nexus) => if wanted(place, Want::Of(nexus)) {
+            place
+        } else {
+            none
+        },
         Change::Empty => none,
     }
 }

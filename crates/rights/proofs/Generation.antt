@@ -14,7 +14,7 @@ use Rattle.rights.specs.declared.Action.{Action}
 use Rattle.rights.specs.declared.Action.the-variants.{Register, Reserve, Release, Clear, Preempt, RegisterIgnoring}
 use Rattle.rights.specs.Places.{registered, rekeyed, enrol}
 use Rattle.rights.specs.Rights.{gone, holderKey, holds, withPlaces, withReservation, withGeneration, held, ended, settled, raised}
-use Rattle.rights.specs.Actions.{decisionRows, registering, reserving, releasing, clearing, preempting, acted, decided}
+use Rattle.rights.specs.Actions.{decisionRows, registering, reserving, releasing, clearing, preempting, takingOver, acted, decided}
 
 -- does an action that nothing refuses raise the generation
 unfoldable pub raises : Action → Rights → ℕ → Parameters → Bool
@@ -64,6 +64,10 @@ preempting-generation r n kind k =
     (raised-after _ (r .generation) refl)
     (raised-after (settled _) (r .generation) (settled-generation _))
 
+taking-over-generation : (r : Rights) (n kind : ℕ) → takingOver r n kind .generation ≡ nextGeneration (r .generation)
+unfolding takingOver withPlaces withReservation held
+taking-over-generation r n kind = raised-after _ (r .generation) refl
+
 -- the generation after an action that nothing refuses
 pub acted-generation : (a : Action) (r : Rights) (n : ℕ) (o : Parameters)
     → acted a r n o .generation ≡ cond (raises a r n o) (nextGeneration (r .generation)) (r .generation)
@@ -72,7 +76,8 @@ acted-generation Register r n o = registering-generation r n (o .service)
 acted-generation Reserve r n o = either (eqb (r .kind) 0) _ _ (r .generation) refl refl
 acted-generation Release r n o = either (holds r n) _ _ (r .generation) refl refl
 acted-generation Clear r n o = raised-generation _
-acted-generation Preempt r n o = preempting-generation r n (o .kind) (o .service)
+acted-generation Preempt r n o =
+    either (eqb (o .service) 0) _ _ (nextGeneration (r .generation)) (taking-over-generation r n (o .kind)) (preempting-generation r n (o .kind) (o .service))
 acted-generation RegisterIgnoring r n o = registering-generation r n (o .service)
 
 -- of a decision: it rises at a GOOD, and a refusal leaves it

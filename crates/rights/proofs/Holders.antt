@@ -60,7 +60,7 @@ module _ (n : ℕ) where
 not-of-unused : (m : ℕ) (p : Place) → T (not (used p)) → T (not (isOf m p))
 not-of-unused m p t = not-map (used p) (isOf m p) (isOf-used m p) t
 
-not-of-other : (m : ℕ) (p : Place) → T (not (eqb (p .nexus) m)) → T (not (isOf m p))
+pub not-of-other : (m : ℕ) (p : Place) → T (not (eqb (p .nexus) m)) → T (not (isOf m p))
 not-of-other m p t = not-map (eqb (p .nexus) m) (isOf m p) (λ h. rw (isOf-nexus m p h) (eqb-refl m)) t
 
 pub key-enrol-other : (n k m : ℕ) (ps : List Place) → T (not (eqb n m)) → keyOf m (enrol n k ps) ≡ keyOf m ps
@@ -185,7 +185,7 @@ and-idle : (a b : Bool) → (T a → T b) → a ≡ (a && b)
 and-idle true b f = sym (T-true b (f tt))
 and-idle false b f = refl
 
-all-not-one : (kind : ℕ) → T (allHold kind) → T (not (oneHolds kind))
+pub all-not-one : (kind : ℕ) → T (allHold kind) → T (not (oneHolds kind))
 all-not-one kind a = test (oneHolds kind) (λ t. absurd (true≢false (sym (T-true _ a) ∙ one-not-all kind (T-true _ t)))) (λ t. t)
 
 none-holds : (r : Rights) (m : ℕ) → holds (ended r) m ≡ false

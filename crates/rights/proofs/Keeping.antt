@@ -15,9 +15,9 @@ use Rattle.rights.specs.declared.Rights.{Rights}
 use Rattle.rights.specs.declared.Parameters.{Parameters}
 use Rattle.rights.specs.declared.Action.{Action}
 use Rattle.rights.specs.declared.Action.the-variants.{Register, Reserve, Release, Clear, Preempt, RegisterIgnoring}
-use Rattle.rights.specs.Places.{unused, registration, used, isOf, registered, somebody, keyOf, enrol, withKey, rekeyed, Spared, nobody, sender, spares, without}
+use Rattle.rights.specs.Places.{unused, registration, used, isOf, registered, somebody, keyOf, enrol, withKey, rekeyed, Spared, nobody, sender, spares, without, alone}
 use Rattle.rights.specs.Rights.{isOneOf, isType, oneHolds, allHold, holds, placeOk, placesApart, placesOk, stands, rightsOk, withPlaces, withReservation, withGeneration, held, holderKey, gone, ended, settled, raised}
-use Rattle.rights.specs.Actions.{stranger, keyWrong, decisionRows, registering, reserving, releasing, clearing, preempting, acted}
+use Rattle.rights.specs.Actions.{stranger, keyWrong, decisionRows, registering, reserving, releasing, clearing, preempting, takingOver, acted}
 use Rattle.rights.proofs.DecisionLaws.{later-good}
 
 -- ---- what validity says of places
@@ -137,6 +137,10 @@ pub without-thin : (s : Spared) (k : ℕ) (p : Place) → Thin p (without s k p)
 unfolding without
 without-thin s k p =
     by-test (eqb (p .key) k && not (spares s p)) (λ b. Thin p (cond b unused p)) (λ t. thin-unused p) (λ t. thin-same p)
+
+pub alone-thin : (n : ℕ) (p : Place) → Thin p (alone n p)
+unfolding alone
+alone-thin n p = by-test (isOf n p) (λ b. Thin p (cond b p unused)) (λ t. thin-same p) (λ t. thin-unused p)
 
 -- ---- a new registration
 
@@ -349,6 +353,23 @@ preempting-ok r n kind k s u t =
     left : (x : Spared) → T (placesOk (map (without x k) (r .places)))
     left x = thin-places (without x k) (without-thin x k) (r .places) (rights-places r t)
 
+-- all are removed but the sender
+pub alone-own : (n : ℕ) (p : Place) → T (isOf n p) → alone n p ≡ p
+unfolding alone
+alone-own n p t = by-test (isOf n p) (λ b. T b → cond b p unused ≡ p) (λ _ _. refl) (λ _ h. absurd h) t
+
+alone-stays : (n : ℕ) (ps : List Place) → T (registered n ps) → T (registered n (map (alone n) ps))
+unfolding registered
+alone-stays n [] t = t
+alone-stays n (p ∷ ps) t =
+    or-map² (isOf n p) (isOf n (alone n p)) (registered n ps) (registered n (map (alone n) ps))
+    (λ h. subst (λ (q : Place). T (isOf n q)) (sym (alone-own n p h)) h) (alone-stays n ps) t
+
+taking-over-ok : (r : Rights) (n kind : ℕ) → T (isType kind) → T (registered n (r .places)) → T (rightsOk r) → T (rightsOk (takingOver r n kind))
+unfolding takingOver withPlaces
+taking-over-ok r n kind s u t =
+    raised-ok _ (held-ok _ kind n s (alone-stays n (r .places) u) (thin-places (alone n) (alone-thin n) (r .places) (rights-places r t)))
+
 -- which actions make a reservation: they need one of the six types and a registered sender
 unfoldable pub makes : Action → Bool
 makes Register = false
@@ -365,7 +386,9 @@ acted-ok Register r n o small k u t = registering-ok r n (o .service) small t
 acted-ok Reserve r n o small k u t = reserving-ok r n (o .kind) (k tt) (u tt) t
 acted-ok Release r n o small k u t = releasing-ok r n t
 acted-ok Clear r n o small k u t = clearing-ok r t
-acted-ok Preempt r n o small k u t = preempting-ok r n (o .kind) (o .service) (k tt) (u tt) t
+acted-ok Preempt r n o small k u t =
+    by-test (eqb (o .service) 0) (λ z. T (rightsOk (cond z (takingOver r n (o .kind)) (preempting r n (o .kind) (o .service)))))
+    (λ _. taking-over-ok r n (o .kind) (k tt) (u tt) t) (λ _. preempting-ok r n (o .kind) (o .service) (k tt) (u tt) t)
 acted-ok RegisterIgnoring r n o small k u t = registering-ok r n (o .service) small t
 
 pub known-sender : (r : Rights) (n : ℕ) (o : Parameters) → T (not (stranger r n o)) → T (registered n (r .places))

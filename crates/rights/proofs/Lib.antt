@@ -4,3 +4,4 @@ pub mod DecisionLaws
 pub mod Keeping
 pub mod Generation
 pub mod Holders
+pub mod TakingOver

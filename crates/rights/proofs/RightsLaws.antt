@@ -3,11 +3,12 @@
 use mathlib.Core.Path.{_≡_, refl, sym, ap, _∙_}
 use mathlib.Core.Bool.{Bool, true, false, true≢false, or-false}
 use Prim.Native.Nat.{ℕ}
-use lib.Dec.{eqb}
+use lib.Dec.{T, eqb}
 use borrow.Author.Tests.{ne-eqb}
 use mathlib.Core.List.{List}
+use Rattle.fields.proofs.Tests.{T-true}
 use Rattle.rights.specs.declared.Place.{Place}
-use Rattle.rights.specs.Rights.{isOneOf, oneHolds, allHold, stands}
+use Rattle.rights.specs.Rights.{isOneOf, isType, oneHolds, allHold, stands}
 
 -- what passes a test is nothing that fails it
 differs : (q : ℕ → Bool) (kind k : ℕ) → q kind ≡ true → q k ≡ false → eqb kind k ≡ false
@@ -21,6 +22,11 @@ module _ (kind : ℕ) where
   pub all-not-none : allHold kind ≡ true → eqb kind 0 ≡ false
   unfolding allHold isOneOf
   all-not-none e = differs allHold kind 0 e refl
+
+  -- one of the six is not none
+  pub type-not-none : T (isType kind) → eqb kind 0 ≡ false
+  unfolding isType isOneOf
+  type-not-none t = differs isType kind 0 (T-true (isType kind) t) refl
 
   pub one-not-all : oneHolds kind ≡ true → allHold kind ≡ false
   unfolding oneHolds allHold isOneOf

@@ -13,8 +13,8 @@ use Rattle.rights.specs.declared.Action.{Action}
 use Rattle.rights.specs.declared.Action.the-variants.{Register, Reserve, Release, Clear, Preempt, RegisterIgnoring}
 use Rattle.rights.specs.declared.Parameters.{Parameters}
 use Rattle.rights.specs.declared.Decision.{Decision}
-use Rattle.rights.specs.Places.{unused, registered, keyOf, vacant, known, enrol, rekeyed, without, nobody, sender}
-use Rattle.rights.specs.Rights.{holds, held, holderKey, ended, withPlaces, settled, raised}
+use Rattle.rights.specs.Places.{unused, registered, keyOf, vacant, known, enrol, rekeyed, without, nobody, sender, alone}
+use Rattle.rights.specs.Rights.{allHold, holds, held, holderKey, ended, withPlaces, settled, raised}
 
 -- ---- refusals
 
@@ -57,8 +57,11 @@ actionRows Reserve r n o = Conflict if (not (eqb (r .kind) 0) && not (holds r n 
 -- "by a holder with the same type, ends it; another type, 7."
 actionRows Release r n o = otherType if (holds r n && not (eqb (r .kind) (o .kind))) ∷ []
 actionRows Clear r n o = []
--- "service action key 0 gives 5; a key nobody has gives 10."
-actionRows Preempt r n o = listField if eqb (o .service) 0 ∷ Conflict if not (known (o .service) (r .places)) ∷ []
+-- "service action key 0 gives 5; a key nobody has gives 10.", but by Q-3 "5 stays for a zero key with no reservation or types 1, 3, 5, 6"
+actionRows Preempt r n o =
+    listField if (eqb (o .service) 0 && not (allHold (r .kind)))
+    ∷ Conflict if (not (eqb (o .service) 0) && not (known (o .service) (r .places)))
+    ∷ []
 actionRows RegisterIgnoring r n o = noPlace if crowded r n o ∷ []
 
 -- "5 for flags; 10 for keys; then the action's own"
@@ -95,12 +98,16 @@ preempting r n kind k =
     (raised (held (withPlaces r (map (without (sender n) k) (r .places))) kind n))
     (raised (settled (withPlaces r (map (without nobody k) (r .places)))))
 
+-- Q-3: "under types 7 and 8 a zero key removes every other registration, ends the reservation, and gives the sender the type named."
+unfoldable pub takingOver : Rights → ℕ → ℕ → Rights
+takingOver r n kind = raised (held (withPlaces r (map (alone n) (r .places))) kind n)
+
 unfoldable pub acted : Action → Rights → ℕ → Parameters → Rights
 acted Register r n o = registering r n (o .service)
 acted Reserve r n o = reserving r n (o .kind)
 acted Release r n o = releasing r n
 acted Clear r n o = clearing r
-acted Preempt r n o = preempting r n (o .kind) (o .service)
+acted Preempt r n o = cond (eqb (o .service) 0) (takingOver r n (o .kind)) (preempting r n (o .kind) (o .service))
 acted RegisterIgnoring r n o = registering r n (o .service)
 
 -- what an action decides: a refusal leaves the rights as they are

@@ -73,3 +73,7 @@ spares (sender n) p = eqb (p .nexus) n
 -- the place p after all with the key k are removed
 unfoldable pub without : Spared → ℕ → Place → Place
 without s k p = cond (eqb (p .key) k && not (spares s p)) unused p
+
+-- Q-3: "removes every other registration": the place p after all but the nexus n are removed
+unfoldable pub alone : ℕ → Place → Place
+alone n p = cond (isOf n p) p unused

@@ -13,11 +13,11 @@ stranger-requires c κs = search needs
 returns : tie.Need-returns
 returns c = sym (preempt-stranger _ _ _ (sym (c .before .stranger .ensures) ∙ c .if1 .taken))
 
-list-field-requires : tie.Need-list-field-requires
-list-field-requires c κs = search needs
+take-over-requires : tie.Need-take-over-requires
+take-over-requires c κs = search needs
 
 returns-2 : tie.Need-returns-2
-returns-2 c = simp (preempt-zero _ _ _ (sym (c .before .before .before .before .stranger .ensures) ∙ c .before .before .before .if1 .left) (eq-eqb _ _ (c .before .if2 .taken)), c .list-field .ensures)
+returns-2 c = c .take-over .ensures ∙ sym (preempt-zero _ _ _ (sym (c .before .before .before .before .stranger .ensures) ∙ c .before .before .before .if1 .left) (eq-eqb _ _ (c .before .if2 .taken)))
 
 has-requires : tie.Need-has-requires
 has-requires c κs = search needs
@@ -37,7 +37,7 @@ preempt-spec =
     (tie.spec
     stranger-requires
     returns
-    list-field-requires
+    take-over-requires
     returns-2
     has-requires
     returns-3

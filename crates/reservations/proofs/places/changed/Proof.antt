@@ -4,7 +4,7 @@ use mathlib.Core.Bool.{and-false}
 use mathlib.Core.Path.{sym, _∙_}
 use borrow.Author.Tests.{eq-eqb, ne-eqb, not-true, not-false}
 use borrow.Author.Needs.{needs}
-use Rattle.rights.specs.Places.{rekeyed, without, spares}
+use Rattle.rights.specs.Places.{rekeyed, without, spares, alone}
 use Rattle.reservations.specs.Search.{wants}
 use Rattle.reservations.proofs.places.changed.Statement.{statement}
 use Rattle.reservations.proofs.places.changed.Tie as tie
@@ -31,6 +31,12 @@ enum-known-change-3 c = search needs
 returns-2 : tie.Need-returns-2
 unfolding without spares
 returns-2 c = simp (c .before .before .before .change3 .given .1, eq-eqb _ _ (c .if4 .taken), and-false)
+
+enum-known-change-4 : tie.Need-enum-known-change-4
+enum-known-change-4 c = search needs
+
+wanted-requires-2 : tie.Need-wanted-requires-2
+wanted-requires-2 c κs = search needs
 
 enum-told : tie.Need-enum-told
 enum-told c = search needs
@@ -60,7 +66,15 @@ unfolding without spares
 returns-8 c = simp (c .before .before .before .before .before .change3 .given .1, ne-eqb _ _ (c .before .before .if4 .left), ne-eqb _ _ (c .if5 .left))
 
 returns-9 : tie.Need-returns-9
-returns-9 c = simp (c .enum-told .given .1)
+unfolding alone wants
+returns-9 c = simp (c .before .before .before .change4 .given .1, sym (c .before .wanted2 .ensures) ∙ c .if6 .taken)
+
+returns-10 : tie.Need-returns-10
+unfolding alone wants
+returns-10 c = simp (c .before .before .before .change4 .given .1, sym (c .before .wanted2 .ensures) ∙ c .if6 .left)
+
+returns-11 : tie.Need-returns-11
+returns-11 c = simp (c .enum-told .given .1)
 
 pub changed-spec : {M : Type 1} → statement M
 changed-spec =
@@ -73,6 +87,8 @@ changed-spec =
     enum-known-change-2
     enum-known-change-3
     returns-2
+    enum-known-change-4
+    wanted-requires-2
     enum-told
     returns-3
     returns-4
@@ -80,4 +96,6 @@ changed-spec =
     returns-6
     returns-7
     returns-8
-    returns-9)
+    returns-9
+    returns-10
+    returns-11)

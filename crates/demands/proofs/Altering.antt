@@ -9,10 +9,11 @@ use Rattle.answers.specs.Order.{first, refuses}
 use Rattle.answers.proofs.OrderLaws.{rows-after}
 use Rattle.rights.specs.declared.Action.{Action}
 use Rattle.rights.specs.declared.Parameters.{Parameters}
+use Rattle.rights.specs.Places.{registered}
 use Rattle.rights.specs.Rights.{isType, rightsOk}
 use Rattle.rights.specs.Actions.{keyWrong, actionRows, decisionRows, acted}
 use Rattle.rights.proofs.DecisionLaws.{later-good}
-use Rattle.rights.proofs.Keeping.{makes, key-right}
+use Rattle.rights.proofs.Keeping.{makes, maker-registered, key-right}
 use Rattle.forms.specs.declared.Command.the-variants.{Alters}
 use Rattle.forms.specs.Forms.{askedOf}
 use Rattle.forms.proofs.Fields.{isMaker, asked-typed}
@@ -32,6 +33,12 @@ pub altered-store : (a : Action) (s : Store) (c : Call) (w : AsksFor (Alters a) 
 unfolding storeBy commandStore
 altered-store a s c w = rw (w .is, w .command)
 
+-- its own tests
+pub altered-rows : (a : Action) (s : Store) (c : Call) (w : AsksFor (Alters a) c)
+    → ownRows (askedOf (c .cdb)) s c ≡ alterRows a (w .request) (s .unit .rights) (c .nexus) (c .dataOut)
+unfolding ownRows commandRows
+altered-rows a s c w = rw (w .is, w .command)
+
 module _ (a : Action) (s : Store) (c : Call) (w : AsksFor (Alters a) c) (e : IsGood s c) where
   abbrev parameters : Parameters
   parameters = parametersOf (w .request) (c .dataOut)
@@ -39,14 +46,10 @@ module _ (a : Action) (s : Store) (c : Call) (w : AsksFor (Alters a) c) (e : IsG
   pub altered : after step s c .unit .rights ≡ acted a (s .unit .rights) (c .nexus) parameters
   altered = ap (λ (t : Store). t .unit .rights) (done-after s c e ∙ altered-store a s c w)
 
-  altered-rows : ownRows (askedOf (c .cdb)) s c ≡ alterRows a (w .request) (s .unit .rights) (c .nexus) (c .dataOut)
-  unfolding ownRows commandRows
-  altered-rows = rw (w .is, w .command)
-
   pub altered-decision : first (decisionRows a (s .unit .rights) (c .nexus) parameters) ≡ Good
   unfolding alterRows refuses
   altered-decision =
-      rows-after Short _ _ tt (rows-after listLength _ _ tt (ap first (sym altered-rows) ∙ good-own s c (sym (step-answer s c) ∙ e)))
+      rows-after Short _ _ tt (rows-after listLength _ _ tt (ap first (sym (altered-rows a s c w)) ∙ good-own s c (sym (step-answer s c) ∙ e)))
 
   -- its own rows
   pub altered-own : first (actionRows a (s .unit .rights) (c .nexus) parameters) ≡ Good
@@ -55,6 +58,10 @@ module _ (a : Action) (s : Store) (c : Call) (w : AsksFor (Alters a) c) (e : IsG
 
   pub altered-key : T (not (keyWrong a (s .unit .rights) (c .nexus) parameters))
   altered-key = key-right a (s .unit .rights) (c .nexus) parameters altered-decision
+
+  -- one who makes a reservation is registered
+  pub altered-sender : T (makes a) → T (registered (c .nexus) (s .unit .rights .places))
+  altered-sender m = maker-registered a (s .unit .rights) (c .nexus) parameters altered-key m
 
   pub altered-ok : T (rightsOk (s .unit .rights))
   altered-ok = unit-rights (s .unit) (usable-unit s (good-usable s c e))

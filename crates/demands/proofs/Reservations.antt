@@ -15,8 +15,8 @@ use Rattle.rights.specs.declared.Action.the-variants.{Register, Reserve, Releas
 use Rattle.rights.specs.declared.Parameters.{Parameters}
 use Rattle.rights.specs.Places.{registered, keyOf}
 use Rattle.rights.specs.Rights.{isType, oneHolds, allHold, holds, holderKey, placesApart, withPlaces, withReservation, withGeneration, held, ended, raised}
-use Rattle.rights.specs.Actions.{keyWrong, crowded, actionRows, registering, reserving, clearing, releasing, preempting, takingOver, acted}
-use Rattle.rights.proofs.Keeping.{makes, known-sender, places-apart, rights-places}
+use Rattle.rights.specs.Actions.{crowded, actionRows, registering, reserving, clearing, releasing, preempting, takingOver, acted}
+use Rattle.rights.proofs.Keeping.{makes, places-apart, rights-places}
 use Rattle.rights.proofs.Holders.{holder-registered, key-cleared, none-registered, holder-key, holder-is, preempted-key, preempted-kind, preempted-over, preempted-else, preempted-same, reserving-kind, reserving-holds, registering-key, registering-others, registering-holds, registering-kind, unregistering-ends}
 use Rattle.rights.proofs.TakingOver.{taken-key, taken-kind, taken-holds}
 use Rattle.forms.specs.declared.Tell.the-variants.{Keys, Reservation}
@@ -35,7 +35,7 @@ use Rattle.demands.specs.Reservations.{keyIn, isRegistered, isHolder, ty
 use Rattle.demands.proofs.Moving.{done-after, after-ways}
 use Rattle.demands.proofs.Telling.{told-seen}
 use Rattle.demands.proofs.Conflicts.{conflict-table, tells-pass}
-use Rattle.demands.proofs.Altering.{altered-store, altered, altered-own, altered-key, altered-ok, altered-type}
+use Rattle.demands.proofs.Altering.{altered-store, altered, altered-own, altered-sender, altered-ok, altered-type}
 
 -- ---- CLEAR
 
@@ -175,8 +175,8 @@ module _ (s : Store) (c : Call) (w : AsksFor (Alters Preempt) c) (e : IsGood s c
 
 module _ (s : Store) (c : Call) (w : AsksFor (Alters Reserve) c) (e : IsGood s c) where
   sender-there : T (registered (c .nexus) (s .unit .rights .places))
-  unfolding keyWrong
-  sender-there = known-sender (s .unit .rights) (c .nexus) _ (altered-key Reserve s c w e)
+  unfolding makes
+  sender-there = altered-sender Reserve s c w e tt
 
   pub reserve-holds : T (isHolder (after step s c) (c .nexus))
   unfolding isHolder acted actionRows parametersOf refuses makes

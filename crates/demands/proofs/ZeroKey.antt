@@ -24,17 +24,17 @@ use Rattle.rights.specs.Rights.{allHold, withPlaces, withReservation, withGener
 use Rattle.rights.specs.Actions.{flagRows, stranger, keyWrong, actionRows, decisionRows, preempting, takingOver, acted, decided}
 use Rattle.rights.specs.Told.{keysData, reservationData}
 use Rattle.rights.proofs.DecisionLaws.{flags-passed}
-use Rattle.rights.proofs.Keeping.{known-sender}
+use Rattle.rights.proofs.Keeping.{makes}
 use Rattle.rights.proofs.Holders.{registered-key}
 use Rattle.rights.proofs.TakingOver.{zero-own, taken-key, taken-keys, taken-reservation}
 use Rattle.forms.specs.declared.Tell.the-variants.{Keys, Reservation}
 use Rattle.forms.specs.declared.Move.{Move}
 use Rattle.forms.specs.declared.Command.the-variants.{Tells, Alters}
-use Rattle.forms.specs.Forms.{askedOf, allocationIn, listLengthIn}
+use Rattle.forms.specs.Forms.{allocationIn, listLengthIn}
 use Rattle.store.specs.Store.{Store, Call, seenOf, usable}
 use Rattle.store.specs.Tell.{told}
 use Rattle.store.specs.Alter.{parametersOf, alterRows}
-use Rattle.store.specs.Step.{guarded, guardRows, commandRows, ownRows, step}
+use Rattle.store.specs.Step.{guarded, guardRows, step}
 use Rattle.store.proofs.Parts.{Cleared, cleared, itself-cleared, guardAnswer}
 use Rattle.store.proofs.StoreLaws.{step-answer}
 use Rattle.demands.specs.History.{after}
@@ -46,7 +46,7 @@ use Rattle.demands.proofs.Usable.{usable-stays}
 use Rattle.demands.proofs.Moving.{good-usable}
 use Rattle.demands.proofs.Telling.{told-seen}
 use Rattle.demands.proofs.Conflicts.{conflict-table}
-use Rattle.demands.proofs.Altering.{altered-key}
+use Rattle.demands.proofs.Altering.{altered-rows, altered-sender}
 use Rattle.demands.proofs.Reservations.{taken, zero-over, places-distinct, named-type, preempt-type, preempt-holders}
 
 -- ---- a reservation-out call that comes as far as its keys
@@ -63,15 +63,11 @@ module _ (a : Action) (s : Store) (c : Call) (w : Sends a c) (u : T (usable s)) 
   unfolding guardRows guarded firstOf
   unguarded = rw (w .asked .is, w .asked .command)
 
-  own-rows : ownRows (askedOf (c .cdb)) s c ≡ alterRows a (w .asked .request) (s .unit .rights) (c .nexus) (c .dataOut)
-  unfolding ownRows commandRows
-  own-rows = rw (w .asked .is, w .asked .command)
-
   -- its keys and its own rows decide
   pub sent-answer : step s c .seen .answer ≡ first (Conflict if keyWrong a (s .unit .rights) (c .nexus) parameters ∷ actionRows a (s .unit .rights) (c .nexus) parameters)
   unfolding alterRows
   sent-answer =
-      step-answer s c ∙ cleared s c right ∙ next-after (guardAnswer (s .unit) c) _ unguarded ∙ ap first own-rows
+      step-answer s c ∙ cleared s c right ∙ next-after (guardAnswer (s .unit) c) _ unguarded ∙ ap first (altered-rows a s c (w .asked))
       ∙ row-pass listLength _ _ (ap not (eq-eqb (listLengthIn (w .asked .request)) 24 (w .long)))
       ∙ row-pass Short _ _ (le-ltb (length (c .dataOut)) 24 (w .whole))
       ∙ flags-passed a (s .unit .rights) (c .nexus) parameters (w .flags)
@@ -105,8 +101,8 @@ module _ (s : Store) (c : Call) (w : AsksFor (Alters Preempt) c) (e : IsGood s c
   is-zero = rw z tt
 
   sender-there : T (registered (c .nexus) (s .unit .rights .places))
-  unfolding keyWrong
-  sender-there = known-sender (s .unit .rights) (c .nexus) _ (altered-key Preempt s c w e)
+  unfolding makes
+  sender-there = altered-sender Preempt s c w e tt
 
   pub zero-registrations : (n : ℕ) → keyIn (after step s c) n ≡ cond (eqb n (c .nexus)) (keyIn s n) 0
   unfolding keyIn

@@ -397,7 +397,7 @@ known-sender r n o w =
     not-not (registered n (r .places)) (nor-l (not (registered n (r .places))) (not (eqb (o .key) (keyOf n (r .places)))) w)
 
 -- one who makes a reservation is registered
-maker-registered : (a : Action) (r : Rights) (n : ℕ) (o : Parameters) → T (not (keyWrong a r n o)) → T (makes a) → T (registered n (r .places))
+pub maker-registered : (a : Action) (r : Rights) (n : ℕ) (o : Parameters) → T (not (keyWrong a r n o)) → T (makes a) → T (registered n (r .places))
 unfolding keyWrong makes
 maker-registered Register r n o w m = absurd m
 maker-registered Reserve r n o w m = known-sender r n o w

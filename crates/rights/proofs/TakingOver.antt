@@ -1,4 +1,4 @@
--- PREEMPT with the key 0: who is registered, who holds and what is told after it, and that nothing else has moved.
+-- PREEMPT with the key 0: its answer, and who is registered, who holds and what is told after it.
 -- Assumes nothing.
 use mathlib.Core.Path.{_≡_, refl, sym, ap, _∙_, subst}
 use mathlib.Core.Bool.{Bool, false, not, cond}

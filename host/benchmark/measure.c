@@ -53,6 +53,7 @@ struct operation {
 #define FULL .slots = 128, .full = 128
 #define FAR(where, every) FULL, .layout = where, .step = every, .cdb_bytes = 6
 #define HELD FULL, .places = 8, .type = 1, .holder = 7, .cdb_bytes = 10
+#define SHARED FULL, .places = 8, .type = 6, .holder = 7, .cdb_bytes = 10
 #define OUT HELD, .sends = KEYS, .moved = LIST_BYTES
 
 static const struct operation operations[] = {
@@ -101,6 +102,10 @@ static const struct operation operations[] = {
     {"UNMAP, 16 descriptors, all 128 slots freed", FULL, .sends = DESCRIPTORS,
      .moved = DESCRIPTORS_BYTES, .cdb_bytes = 10,
      .cdb = {0x42, [7] = DESCRIPTORS_BYTES >> 8, DESCRIPTORS_BYTES & 0xFF}},
+    {"READ(10), 1 block, refused by the reservation (10)", SHARED, .nexus = 8,
+     .answer = RIDGE_CONFLICT, .cdb = {0x28, [5] = 5, [8] = 1}},
+    {"READ(10), 1 block, by a registrant under 6", SHARED, .nexus = 6,
+     .moved = 512, .cdb = {0x28, [5] = 5, [8] = 1}},
     {"RESERVE IN, READ KEYS, 8 places", HELD, .moved = 72,
      .cdb = {0x5E, 0, [7] = 1, 0}},
     {"RESERVE IN, READ RESERVATION", HELD, .moved = 24,

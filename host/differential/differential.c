@@ -16,8 +16,8 @@
  * reasons that come first in 01's order).
  *
  * Exit status: 0 no difference and every answer met often enough; 1 a
- * difference, which is printed; 2 an answer, command, take-over or damage too
- * rare (asked of long runs alone), bad usage.
+ * difference, which is printed; 2 an answer, command, take-over, cell of the
+ * conflict rule or damage too rare (asked of long runs alone), bad usage.
  */
 
 #include <inttypes.h>
@@ -26,6 +26,7 @@
 #include <string.h>
 
 #include "../second/second.h"
+#include "cells.h"
 #include "console.h"
 #include "damage.h"
 #include "generate.h"
@@ -96,6 +97,7 @@ struct figures {
        over; by type held: refused by 5, which in PREEMPT has no other cause. */
     uint64_t taken_over[16][16];
     uint64_t zero_keys_refused[16];
+    uint64_t cells[CELLS]; /* calls that tell what the cell says */
 };
 
 struct run {
@@ -417,6 +419,24 @@ static void count_preempt(struct run *run)
         run->figures.taken_over[held][named]++;
 }
 
+/*
+ * A call tells of its cell of the conflict rule where nothing else decided:
+ * where it is good, since it was right in all else, and where it conflicts,
+ * though RESERVE OUT conflicts for its keys too.
+ */
+static void count_cell(struct run *run, uint8_t code)
+{
+    bool told = run->second.answer == RIDGE_GOOD ||
+                (run->second.answer == RIDGE_CONFLICT && code != 0x5F);
+    size_t cell = CELLS;
+
+    if (told)
+        cell = cell_of(&run->before.unit.rights, run->lending.nexus,
+                       run->before.cdb);
+    if (cell != CELLS)
+        run->figures.cells[cell]++;
+}
+
 static void count_call(struct run *run)
 {
     struct figures *figures = &run->figures;
@@ -432,6 +452,7 @@ static void count_call(struct run *run)
         count_preempt(run);
     if (good)
         count_large(run, code);
+    count_cell(run, code);
 }
 
 /* Types 7 and 8 stand seldom, and much of what is rare wants them. */
@@ -623,6 +644,22 @@ static bool print_zero_keys(const struct figures *figures, uint64_t floor)
     return enough;
 }
 
+/* The cell of the conflict rule that the fewest calls tell of. */
+static bool print_cells(const struct figures *figures, uint64_t floor)
+{
+    size_t least = 0;
+    char name[CELL_NAME_ROOM];
+
+    for (size_t cell = 1; cell < CELLS; cell++) {
+        if (figures->cells[cell] < figures->cells[least])
+            least = cell;
+    }
+    cell_name(least, name);
+    printf("rarest of the %d cells of the conflict rule: %s, %" PRIu64 "\n",
+           CELLS, name, figures->cells[least]);
+    return often_enough(name, figures->cells[least], floor);
+}
+
 static bool print_damages(const struct figures *figures, uint64_t floor)
 {
     bool enough = true;
@@ -662,6 +699,7 @@ static bool print_figures(const struct figures *figures)
     enough &= print_commands(figures, floor);
     enough &= print_large(figures, floor);
     enough &= print_zero_keys(figures, floor / 20);
+    enough &= print_cells(figures, floor / 5);
     enough &= print_damages(figures, floor / 2);
     return enough;
 }

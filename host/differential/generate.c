@@ -233,6 +233,8 @@ void generate_reservation(struct random *random, struct ridge_rights *rights,
         type == 7 || type == 8 ? 0 : rights->places[place].nexus;
 }
 
+/* Types 7 and 8 are drawn twice as often as the others: every registrant can
+   end them, so they stand for a shorter time. */
 void generate_store(struct random *random, struct store *store)
 {
     struct ridge_rights *rights = &store->unit.rights;
@@ -242,9 +244,10 @@ void generate_store(struct random *random, struct store *store)
     rights->generation = (uint32_t)RANDOM_CHOICE(
         random, 0, 7, UINT32_MAX - 1, UINT32_MAX, 0x01020304);
     generate_registrations(random, rights);
-    if (random_percent(random, 70))
-        generate_reservation(random, rights,
-                             (uint32_t)RANDOM_CHOICE(random, 1, 3, 5, 6, 7, 8));
+    if (random_percent(random, 85))
+        generate_reservation(
+            random, rights,
+            (uint32_t)RANDOM_CHOICE(random, 1, 3, 5, 6, 7, 7, 8, 8));
     generate_map(random, store);
 }
 
@@ -544,7 +547,8 @@ static void make_reserve_in(struct random *random, const struct store *store,
     for (size_t place = 0; place < RIDGE_PLACES; place++)
         available += rights->places[place].key != 0 ? 8 : 0;
     start_cdb(random, request, 0x5E, 10);
-    request->cdb[1] &= random_percent(random, 5) ? 0xFF : 0xE1;
+    request->cdb[1] &= random_percent(random, 5) ? 0xFF : 0xE0;
+    request->cdb[1] ^= (uint8_t)random_below(random, 2);
     if ((request->cdb[1] & 1) != 0)
         available = rights->type != 0 ? 24 : 8;
     allocation = RANDOM_CHOICE(random, 0, 1, 7, 8, 9, 16, 23, 24, 25, 72,

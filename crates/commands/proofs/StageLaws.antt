@@ -26,7 +26,8 @@ use Rattle.decoder.specs.declared.Decoded.{Decoded}
 use Rattle.decoder.specs.declared.Decoded.the-variants.{Asks, Wrong}
 use Rattle.decoder.specs.Decoding.{decoded}
 use Rattle.decoder.proofs.DecodingLaws.{decoded-wrong, decoded-asks, asks-good, asks-this, wrong-this, wrong-refuses}
-use Rattle.store.specs.Step.{guarded, guardRows, stageRows}
+use Rattle.store.specs.Conflict.{conflict}
+use Rattle.store.specs.Step.{guardRows, stageRows}
 use Rattle.store.proofs.Parts.{guard-refusing}
 use Rattle.commands.specs.Served.{askedAt}
 
@@ -104,11 +105,11 @@ module _ (r : Rights) (n : ℕ) (cdb : List ℕ) where
             ∙ next-after _ _ (asks-good _ (askedBy (code .service) cdb) q (sym g ∙ w))
             ∙ ap (λ (x : Asked). first (guardRows x r n)) (asks-this _ (askedBy (code .service) cdb) q (sym g ∙ w))
 
-        pub asked-guarded : guarded (q .command) r n ≡ true → Wrong Conflict ≡ askedAt e r n cdb
+        pub asked-conflict : conflict r n (q .command) ≡ true → Wrong Conflict ≡ askedAt e r n cdb
         unfolding askedAt guardRows refuses
-        asked-guarded t = rw h (decoded-wrong _ Conflict _ (guard-left ∙ row-stop Conflict _ _ t) tt)
+        asked-conflict t = rw h (decoded-wrong _ Conflict _ (guard-left ∙ row-stop Conflict _ _ t) tt)
 
-        pub asked-passes : guarded (q .command) r n ≡ false → Asks q ≡ askedAt e r n cdb
+        pub asked-passes : conflict r n (q .command) ≡ false → Asks q ≡ askedAt e r n cdb
         unfolding askedAt guardRows askedIn
         asked-passes t =
             rw h

@@ -1,24 +1,24 @@
--- The conflict rule as a table: a call on the blocks is answered 10 exactly where the table stops it, and a command that tells never is.
+-- The conflict table: a call on the blocks is answered 10 exactly where the table stops it, and a command that tells never is.
 -- Assumes nothing.
-use mathlib.Core.Path.{_≡_, refl, sym, _∙_, subst}
+use mathlib.Core.Path.{_≡_, sym, _∙_, subst}
 use mathlib.Core.Logic.{_↔_, _≢_}
-use mathlib.Core.Bool.{Bool, true, false, not, _&&_, _||_, cond}
+use mathlib.Core.Bool.{Bool, true, false, not, cond}
 use mathlib.Core.List.{List, [], _∷_}
 use Prim.Native.Nat.{ℕ}
-use lib.Dec.{T, eqb, eqb→eq}
-use Rattle.fields.proofs.Tests.{and-l, and-r, test, by-test, T-true, T-false}
+use lib.Dec.{T, T-not, eqb}
+use Rattle.fields.proofs.Tests.{and-l, and-r, test, by-test, T-true, T-false, false→T, agree}
 use Rattle.answers.specs.declared.Answer.{Answer}
 use Rattle.answers.specs.declared.Answer.the-variants.{Good, Refused, Conflict, Unusable, Short}
 use Rattle.answers.specs.Order.{Row, _if_, first, next, refuses, firstOf, nextBy, refusingBy}
+use Rattle.rights.specs.declared.Action.{Action}
 use Rattle.rights.specs.Places.{registered}
-use Rattle.rights.specs.Rights.{isOneOf, oneHolds, allHold, holds}
-use Rattle.rights.specs.Conflict.{passes, stops, conflict}
-use Rattle.rights.proofs.ConflictLaws.{types}
+use Rattle.rights.specs.Rights.{isOneOf, isType, oneHolds, allHold, holds}
+use Rattle.rights.proofs.Types.{types, every, agreesUnder, agree-under}
 use Rattle.rights.proofs.Holders.{kind-listed}
 use Rattle.forms.specs.declared.Tell.{Tell}
 use Rattle.forms.specs.declared.Move.{Move}
 use Rattle.forms.specs.declared.Move.the-variants.{Read, Write, Unmap}
-use Rattle.forms.specs.declared.Command.the-variants.{Tells}
+use Rattle.forms.specs.declared.Command.the-variants.{Tells, Moves, Alters}
 use Rattle.forms.specs.declared.Service.{Service}
 use Rattle.forms.specs.declared.Service.the-variants.{Served, Other}
 use Rattle.forms.specs.declared.Entry.{Entry}
@@ -26,14 +26,19 @@ use Rattle.forms.specs.declared.Entry.the-variants.{Listed, Unlisted}
 use Rattle.forms.specs.declared.Request.{Request}
 use Rattle.forms.specs.Forms.{entryOf, askedOf}
 use Rattle.forms.specs.Tests.{codeRows, lengthRows, testRows, serviceRows, codeFieldRows, fieldRows}
+use Rattle.forms.proofs.Table.{isAlters, altersIn, alters-code}
 use Rattle.pool.specs.Pool.{Pool}
 use Rattle.store.specs.Store.{Store, Call, usable}
-use Rattle.store.specs.Move.{access, readRows, writeRows, unmapRows, moveRows}
+use Rattle.store.specs.Conflict.{conflict, passes, stops, ruled}
+use Rattle.store.specs.Move.{readRows, writeRows, unmapRows, moveRows}
 use Rattle.store.specs.Tell.{tellRows}
-use Rattle.store.specs.Step.{callRows, storeRows, guarded, guardRows, commandRows, ownRows, step, answerTo}
+use Rattle.store.specs.Step.{callRows, storeRows, guardRows, commandRows, ownRows, step, answerTo}
+use Rattle.store.proofs.ConflictLaws.{holdsBy, ruleBy, table-rule, telling-passes}
 use Rattle.store.proofs.Parts.{callAnswer, storeAnswer, codeAnswer, lengthAnswer, fieldAnswer, guardAnswer, parts}
 use Rattle.store.proofs.StoreLaws.{step-answer}
+use Rattle.demands.specs.History.{isOut}
 use Rattle.demands.specs.Contents.{AsksFor, Asks, byItself}
+use Rattle.demands.specs.ConflictTable.{CellsDecide}
 use Rattle.demands.specs.Reservations.{holder, registrant, outsider, senderOf, sameSender, conflictTable, column, says, typeIn, stopped}
 use Rattle.demands.proofs.Usable.{usable-unit, unit-rights}
 use Rattle.demands.proofs.WhenGood.{conflict-first, own-answers}
@@ -65,75 +70,23 @@ none-ten : (a : Answer) → T (notTen a) → a ≢ Conflict
 unfolding notTen
 none-ten a t e = subst (λ (x : Answer). T (notTen x)) e t
 
--- ---- the table is the rule
+-- ---- the lines of the types and senders say what the rule says
 
--- a test at both values, at each move, at each number of a list
-bits : (P : Bool → Bool) → T (P true && P false) → (b : Bool) → T (P b)
-bits P t true = and-l (P true) (P false) t
-bits P t false = and-r (P true) (P false) t
+unfoldable linesBy : Move → ℕ → Bool → Bool → Bool
+linesBy m kind named known = says conflictTable kind (cond (holdsBy kind named known) holder (cond known registrant outsider)) m
 
-moves : (P : Move → Bool) → T (P Read && P Write && P Unmap) → (m : Move) → T (P m)
-moves P t Read = and-l (P Read) (P Write) (and-l (P Read && P Write) (P Unmap) t)
-moves P t Write = and-r (P Read) (P Write) (and-l (P Read && P Write) (P Unmap) t)
-moves P t Unmap = and-r (P Read && P Write) (P Unmap) t
+lines-agree : (m : Move) → T (every (agreesUnder (ruleBy (Moves m)) (linesBy m)) types)
+unfolding every agreesUnder agree ruleBy linesBy holdsBy stops isType isOneOf oneHolds allHold conflictTable says column sameSender
+lines-agree Read = tt
+lines-agree Write = tt
+lines-agree Unmap = tt
 
-unfoldable every : (ℕ → Bool) → List ℕ → Bool
-every P [] = true
-every P (x ∷ xs) = P x && every P xs
-
-every-one : (P : ℕ → Bool) (k : ℕ) (ks : List ℕ) → T (every P ks) → T (isOneOf k ks) → T (P k)
-unfolding every isOneOf
-every-one P k [] s t = absurd t
-every-one P k (x ∷ xs) s t =
-    by-test (eqb k x) (λ b. eqb k x ≡ b → T (b || isOneOf k xs) → T (P k))
-    (λ h e _. subst (λ (y : ℕ). T (P y)) (sym (eqb→eq k x h)) (and-l (P x) (every P xs) s))
-    (λ _ _ u. every-one P k xs (and-r (P x) (every P xs) s) u) refl t
-
-agree : Bool → Bool → Bool
-agree a b = cond a b (not b)
-
-agree-same : (a b : Bool) → T (agree a b) → a ≡ b
-unfolding agree
-agree-same true true t = refl
-agree-same true false t = absurd t
-agree-same false true t = absurd t
-agree-same false false t = refl
-
--- by the type, whether the holder field names the sender, and whether it is registered
-unfoldable holdsBy : ℕ → Bool → Bool → Bool
-holdsBy kind named known = (oneHolds kind && named) || (allHold kind && known)
-
-unfoldable ruleBy : ℕ → Bool → Bool → Move → Bool
-ruleBy kind named known m = stops kind (access m) && not (holdsBy kind named known || (isOneOf kind (5 ∷ 6 ∷ []) && known))
-
-unfoldable tableBy : ℕ → Bool → Bool → Move → Bool
-tableBy kind named known m = says conflictTable kind (cond (holdsBy kind named known) holder (cond known registrant outsider)) m
-
-unfoldable agrees : ℕ → Bool → Bool → Move → Bool
-agrees kind named known m = agree (ruleBy kind named known m) (tableBy kind named known m)
-
-unfoldable agreesAt : ℕ → Bool → Bool → Bool
-agreesAt kind named known = agrees kind named known Read && agrees kind named known Write && agrees kind named known Unmap
-
-unfoldable agreesFor : ℕ → Bool
-agreesFor kind = (agreesAt kind true true && agreesAt kind true false) && (agreesAt kind false true && agreesAt kind false false)
-
-all-agree : T (every agreesFor types)
-unfolding every agreesFor agreesAt agrees agree ruleBy tableBy holdsBy stops access isOneOf oneHolds allHold conflictTable says column sameSender
-all-agree = tt
-
-table-rule : (kind : ℕ) (named known : Bool) (m : Move) → T (isOneOf kind types) → ruleBy kind named known m ≡ tableBy kind named known m
-unfolding agreesFor agreesAt agrees
-table-rule kind named known m t =
-    agree-same _ _
-    (moves (agrees kind named known)
-    (bits (agreesAt kind named) (bits (λ b. agreesAt kind b true && agreesAt kind b false) (every-one agreesFor kind types all-agree t) named) known) m)
-
-rule-stopped : (m : Move) (s : Store) (c : Call) → T (usable s) → conflict (s .unit .rights) (c .nexus) (access m) ≡ stopped s c m
-unfolding conflict passes holds ruleBy tableBy holdsBy stopped senderOf typeIn
+rule-stopped : (m : Move) (s : Store) (c : Call) → T (usable s) → conflict (s .unit .rights) (c .nexus) (Moves m) ≡ stopped s c m
+unfolding ruled passes holds ruleBy linesBy holdsBy stopped senderOf typeIn
 rule-stopped m s c u =
-    table-rule (s .unit .rights .kind) (eqb (s .unit .rights .holder) (c .nexus)) (registered (c .nexus) (s .unit .rights .places)) m
-    (kind-listed (s .unit .rights) (unit-rights (s .unit) (usable-unit s u)))
+    table-rule (s .unit .rights) (c .nexus) (Moves m)
+    ∙ agree-under (ruleBy (Moves m)) (linesBy m) types (lines-agree m) (s .unit .rights .kind) (eqb (s .unit .rights .holder) (c .nexus))
+    (registered (c .nexus) (s .unit .rights .places)) (kind-listed (s .unit .rights) (unit-rights (s .unit) (usable-unit s u)))
 
 -- ---- a call on the blocks
 
@@ -143,14 +96,21 @@ moves-none Read q capacity p c = tt
 moves-none Write q capacity p c = tt
 moves-none Unmap q capacity p c = tt
 
+-- it is answered 10 exactly where the table has a conflict
+move-decided : (m : Move) (s : Store) (c : Call) → Asks m c → T (usable s) → byItself c ≡ Good
+    → step s c .seen .answer ≡ Conflict ↔ T (conflict (s .unit .rights) (c .nexus) (Moves m))
+move-decided m s c a u g = (
+  λ e. test (conflict (s .unit .rights) (c .nexus) (Moves m)) (λ t. t)
+      (λ n. absurd (none-ten _ (first-none _ (moves-none m (a .request) (s .unit .capacity) (s .pool) c))
+      (sym (own-answers m s c a u g (T-false _ n)) ∙ e))),
+  λ t. conflict-first m s c a u g (T-true _ t),
+)
+
+-- and so where the lines of the types and senders have one
 pub conflict-table : (m : Move) (s : Store) (c : Call) → Asks m c → T (usable s) → byItself c ≡ Good
     → step s c .seen .answer ≡ Conflict ↔ T (stopped s c m)
-conflict-table m s c a u g = (
-  λ e. test (stopped s c m) (λ t. t)
-      (λ n. absurd (none-ten _ (first-none _ (moves-none m (a .request) (s .unit .capacity) (s .pool) c))
-      (sym (own-answers m s c a u g (rule-stopped m s c u ∙ T-false _ n)) ∙ e))),
-  λ t. conflict-first m s c a u g (rule-stopped m s c u ∙ T-true _ t),
-)
+conflict-table m s c a u g =
+    subst (λ (b : Bool). step s c .seen .answer ≡ Conflict ↔ T b) (rule-stopped m s c u) (move-decided m s c a u g)
 
 -- ---- a command that tells
 
@@ -175,8 +135,8 @@ fixed-none s c = (tt, tt, tt)
 
 module _ (t : Tell) (s : Store) (c : Call) (w : AsksFor (Tells t) c) where
   guard-none : T (notTen (guardAnswer (s .unit) c))
-  unfolding guardRows guarded firstOf notTen
-  guard-none = rw (w .is, w .command) tt
+  unfolding guardRows firstOf notTen
+  guard-none = rw (w .is, w .command, telling-passes (s .unit .rights) (c .nexus) t) tt
 
   own-none : T (noTen (ownRows (askedOf (c .cdb)) s c))
   unfolding ownRows commandRows tellRows refusingBy notTen
@@ -194,3 +154,17 @@ module _ (t : Tell) (s : Store) (c : Call) (w : AsksFor (Tells t) c) where
       (next-none (fieldAnswer c) _ (first-none _ (fields-none (entryOf (c .cdb)) (c .cdb)))
       (next-none (guardAnswer (s .unit) c) _ guard-none (first-none _ own-none))))))))
       (sym (step-answer s c) ∙ e)
+
+-- ---- every command that is served
+
+altering-out : (a : Action) (c : Call) → AsksFor (Alters a) c → T (isOut c)
+unfolding isOut altersIn isAlters
+altering-out a c w = alters-code (c .cdb) (rw (w .is, w .command) tt)
+
+pub cells-decide : CellsDecide step
+cells-decide (Tells t) s c w o u g = (
+  λ e. absurd (tells-pass t s c w e),
+  λ h. absurd (T-not (conflict (s .unit .rights) (c .nexus) (Tells t)) (false→T _ (telling-passes (s .unit .rights) (c .nexus) t)) h),
+)
+cells-decide (Moves m) s c w o u g = move-decided m s c w u g
+cells-decide (Alters a) s c w o u g = absurd (T-not (isOut c) o (altering-out a c w))

@@ -3,11 +3,11 @@
 use mathlib.Core.Path.{_≡_, refl, sym, ap, ap₂, _∙_}
 use mathlib.Core.Bool.{Bool, true, false, not, _||_}
 use mathlib.Core.List.{List, [], _∷_, map}
-use Prim.Native.Nat.{ℕ, zero, suc}
-use lib.Dec.{T, eqb, ltb, eqb·suc-zero, lt→ltb, nleb→lt}
+use Prim.Native.Nat.{ℕ}
+use lib.Dec.{T, eqb, ltb, lt→ltb, nleb→lt}
 use Rattle.fields.specs.Bytes.{zeros}
 use Rattle.fields.specs.Field.{byte}
-use Rattle.fields.proofs.Tests.{and-r, and-map, or-other, nor-l, nand-rest, not-not-intro, not-map, test, true→T, false→T, T-true}
+use Rattle.fields.proofs.Tests.{and-r, or-other, nor-l, nand-rest, not-not-intro, not-map, test, true→T, false→T, T-true}
 use Rattle.answers.specs.declared.Answer.{Answer}
 use Rattle.answers.specs.declared.Answer.the-variants.{Good, Refused, Conflict, Unusable, Short}
 use Rattle.answers.specs.Order.{first, ifGoodBy, refuses}
@@ -15,18 +15,15 @@ use Rattle.answers.proofs.OrderLaws.{row-stop, not-good}
 use Rattle.pool.specs.Valid.{slotsOk}
 use Rattle.pool.proofs.Keeping.{poolOk-of, mapOk-zeros}
 use Rattle.rights.specs.declared.Rights.{Rights}
-use Rattle.rights.specs.declared.Access.{Access}
-use Rattle.rights.specs.declared.Access.the-variants.{Reads, Writes}
-use Rattle.rights.specs.Rights.{isOneOf}
-use Rattle.rights.specs.Conflict.{passes, stops, conflict, shutOut}
 use Rattle.forms.specs.declared.Command.{Command}
 use Rattle.forms.specs.declared.Command.the-variants.{Tells, Moves, Alters}
 use Rattle.forms.specs.Forms.{Asked, nothing, asks, askedOf}
 use Rattle.forms.proofs.Table.{isMoves, movesIn, altersIn, alters-code, moves-code}
 use Rattle.store.specs.declared.Unit.{Unit}
 use Rattle.store.specs.Store.{Store, Call, usable, seenOf}
-use Rattle.store.specs.Move.{access}
-use Rattle.store.specs.Step.{callRows, guarded, guardRows, ownRows, answerBy, dataBy, storeBy, step, answerTo}
+use Rattle.store.specs.Conflict.{conflict, shutOut}
+use Rattle.store.specs.Step.{callRows, guardRows, ownRows, answerBy, dataBy, storeBy, step, answerTo}
+use Rattle.store.proofs.ConflictLaws.{shut-moves}
 use Rattle.store.proofs.Parts.{guardAnswer, guard-refused, answers-alike}
 use Rattle.store.proofs.StoreLaws.{guard-stops, step-answer, step-seen, step-store, step-ways, leaves-both, unit-rows, unit-data, unit-by, unit-left, pool-left, store-left}
 use Rattle.demands.specs.History.{Event, call, Machine, after, afterEvent, machine, isOut, isShutOut, isSomebody, isKept, kept, add, watchedOn, heardOn, replay, watched, heard}
@@ -44,29 +41,19 @@ seen-refused Conflict bs bs′ c t = refl
 seen-refused Unusable bs bs′ c t = refl
 seen-refused Short bs bs′ c t = refl
 
--- ---- READ conflicts, so everything guarded does
-
-stops-all : (kind : ℕ) (a : Access) → T (stops kind Reads) → T (stops kind a)
-unfolding stops isOneOf
-stops-all kind Reads t = t
-stops-all zero Writes t = t
-stops-all (suc kind) Writes t = rw eqb·suc-zero tt
-
-shut-all : (r : Rights) (n : ℕ) (a : Access) → T (shutOut r n) → T (conflict r n a)
-unfolding shutOut conflict
-shut-all r n a t = and-map (stops (r .kind) Reads) (stops (r .kind) a) (not (passes r n)) (not (passes r n)) (stops-all (r .kind) a) (λ h. h) t
+-- ---- READ conflicts, so every command on the blocks does
 
 -- a command on the blocks from a nexus that is shut out meets the conflict
-guarded-shut : (k : Command) (r : Rights) (n : ℕ) → T (isMoves k) → T (shutOut r n) → T (guarded k r n)
-unfolding guarded isMoves
-guarded-shut (Tells x) r n m h = absurd m
-guarded-shut (Moves x) r n m h = shut-all r n (access x) h
-guarded-shut (Alters x) r n m h = absurd m
+command-shut : (k : Command) (r : Rights) (n : ℕ) → T (isMoves k) → T (shutOut r n) → T (conflict r n k)
+unfolding isMoves
+command-shut (Tells x) r n m h = absurd m
+command-shut (Moves x) r n m h = shut-moves r n x h
+command-shut (Alters x) r n m h = absurd m
 
 guard-shut : (x : Asked) (r : Rights) (n : ℕ) → T (movesIn x) → T (shutOut r n) → first (guardRows x r n) ≡ Conflict
 unfolding movesIn
 guard-shut nothing r n m h = absurd m
-guard-shut (asks q) r n m h = guard-stops q r n (T-true _ (guarded-shut (q .command) r n m h))
+guard-shut (asks q) r n m h = guard-stops q r n (T-true _ (command-shut (q .command) r n m h))
 
 shut-guard : (s : Store) (c : Call) → T (movesIn (askedOf (c .cdb))) → T (isShutOut s c) → T (refuses (guardAnswer (s .unit) c))
 unfolding isShutOut refuses

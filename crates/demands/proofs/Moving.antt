@@ -8,7 +8,6 @@ use Rattle.answers.specs.declared.Answer.{Answer}
 use Rattle.answers.specs.declared.Answer.the-variants.{Good, Conflict}
 use Rattle.answers.specs.Order.{_if_, first, refuses}
 use Rattle.answers.proofs.OrderLaws.{good-cases, not-good}
-use Rattle.rights.specs.Conflict.{conflict}
 use Rattle.rights.specs.declared.Rights.{Rights}
 use Rattle.forms.specs.declared.Move.{Move}
 use Rattle.forms.specs.declared.Move.the-variants.{Read, Write, Unmap}
@@ -16,8 +15,9 @@ use Rattle.forms.specs.declared.Command.the-variants.{Moves}
 use Rattle.forms.specs.Forms.{askedOf, countIn}
 use Rattle.forms.proofs.Fields.{isTransfer as isTransferCommand, asked-fits}
 use Rattle.store.specs.Store.{Store, Call, withPool, usable, seenOf}
-use Rattle.store.specs.Move.{access, moveRows, moved, fetched}
-use Rattle.store.specs.Step.{guarded, guardRows, commandRows, ownRows, commandData, dataBy, commandStore, storeBy, step, answerTo}
+use Rattle.store.specs.Conflict.{conflict}
+use Rattle.store.specs.Move.{moveRows, moved, fetched}
+use Rattle.store.specs.Step.{guardRows, commandRows, ownRows, commandData, dataBy, commandStore, storeBy, step, answerTo}
 use Rattle.store.proofs.Parts.{good-cleared, good-own}
 use Rattle.store.proofs.StoreLaws.{step-answer, step-seen, step-store, leaves-good}
 use Rattle.demands.specs.History.{after}
@@ -46,8 +46,8 @@ after-ways s c P done kept = good-cases (step s c .seen .answer) done (λ t. sub
 -- ---- what a call on the blocks asks for
 
 module _ (m : Move) (c : Call) (a : Asks m c) where
-  pub asks-guard : (r : Rights) (n : ℕ) → guardRows (askedOf (c .cdb)) r n ≡ Conflict if conflict r n (access m) ∷ []
-  unfolding guardRows guarded
+  pub asks-guard : (r : Rights) (n : ℕ) → guardRows (askedOf (c .cdb)) r n ≡ Conflict if conflict r n (Moves m) ∷ []
+  unfolding guardRows
   asks-guard r n = rw (a .is, a .command)
 
   pub asks-rows : (s : Store) → ownRows (askedOf (c .cdb)) s c ≡ moveRows m (a .request) (s .unit .capacity) (s .pool) c

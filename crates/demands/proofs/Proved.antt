@@ -1,10 +1,12 @@
 -- All that is proved of the store, by one term.
 -- Assumes nothing.
+use Rattle.store.proofs.ConflictLaws.{table-rule}
 use Rattle.demands.specs.Proved.{Proved}
 use Rattle.demands.proofs.Demand1.{demand-1}
 use Rattle.demands.proofs.Demand2.{demand-2}
 use Rattle.demands.proofs.Storage.{storage}
 use Rattle.demands.proofs.Reservations.{reservations}
+use Rattle.demands.proofs.Conflicts.{cells-decide}
 use Rattle.demands.proofs.ZeroKey.{zero-key, rules-agree}
 use Rattle.demands.proofs.TakenOver.{fresh-taken-over}
 use Rattle.demands.proofs.Telling.{telling}
@@ -18,6 +20,8 @@ proved = record {
   demand-2 = demand-2;
   storage = storage;
   reservations = reservations;
+  table-is-rule = table-rule;
+  cells-decide = cells-decide;
   zero-key = zero-key;
   rules-agree = rules-agree;
   telling = telling;

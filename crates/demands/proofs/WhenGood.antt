@@ -16,15 +16,15 @@ use Rattle.answers.proofs.OrderLaws.{row-pass, row-stop, row-end, next-after}
 use Rattle.pool.specs.Pool.{free, unmapped, roomFor}
 use Rattle.pool.specs.Valid.{capacityOk, slotsOk}
 use Rattle.descriptors.specs.Descriptors.{considered, someFails}
-use Rattle.rights.specs.declared.Access.the-variants.{Reads}
-use Rattle.rights.specs.Conflict.{conflict, stops}
-use Rattle.rights.specs.Rights.{isOneOf, noRights}
+use Rattle.rights.specs.Rights.{isOneOf, oneHolds, allHold, holds, noRights}
 use Rattle.forms.specs.declared.Move.{Move}
 use Rattle.forms.specs.declared.Move.the-variants.{Read, Write, Unmap}
+use Rattle.forms.specs.declared.Command.the-variants.{Moves}
 use Rattle.forms.specs.Forms.{countIn, listLengthIn}
 use Rattle.store.specs.declared.Unit.{Unit}
 use Rattle.store.specs.Store.{Store, Call, usable}
-use Rattle.store.specs.Move.{access, pastEnd, readRows, writeRows, moveRows}
+use Rattle.store.specs.Conflict.{columnUnder, columnOf, says, conflict}
+use Rattle.store.specs.Move.{pastEnd, readRows, writeRows, moveRows}
 use Rattle.store.specs.Fresh.{freshUnit, freshStore}
 use Rattle.store.specs.Step.{step}
 use Rattle.store.proofs.Parts.{guardAnswer, Cleared, cleared, itself-cleared, conflict-first as first-conflict}
@@ -45,12 +45,12 @@ module _ (m : Move) (s : Store) (c : Call) (a : Asks m c) (u : T (usable s)) (g 
   right = itself-cleared s c u g
 
   -- "10" comes first
-  pub conflict-first : conflict (s .unit .rights) (c .nexus) (access m) ≡ true → step s c .seen .answer ≡ Conflict
+  pub conflict-first : conflict (s .unit .rights) (c .nexus) (Moves m) ≡ true → step s c .seen .answer ≡ Conflict
   conflict-first h =
       step-answer s c ∙ first-conflict s c right (ap first (asks-guard m c a (s .unit .rights) (c .nexus)) ∙ row-stop Conflict _ _ h)
 
   -- then the command's own
-  pub own-answers : conflict (s .unit .rights) (c .nexus) (access m) ≡ false
+  pub own-answers : conflict (s .unit .rights) (c .nexus) (Moves m) ≡ false
       → step s c .seen .answer ≡ first (moveRows m (a .request) (s .unit .capacity) (s .pool) c)
   own-answers h =
       step-answer s c ∙ cleared s c right
@@ -121,12 +121,11 @@ unmap-good s c a r = decided-by (rows-answer Unmap s c a r) (unmap-passes (s .un
 
 -- it is GOOD for every nexus that may read, with room for the data
 pub read-follows : (s : Store) (w r : Call) (a : Asks Write w) (b : Asks Read r) → SameRange (a .request) (b .request) → IsGood s w → byItself r ≡ Good
-    → conflict (s .unit .rights) (r .nexus) Reads ≡ false → 512 * countIn (b .request) ≤ length (r .dataIn) → IsGood (after step s w) r
-unfolding access
+    → conflict (s .unit .rights) (r .nexus) (Moves Read) ≡ false → 512 * countIn (b .request) ≤ length (r .dataIn) → IsGood (after step s w) r
 read-follows s w r a b e g t f l =
     let still : after step s w .unit ≡ s .unit = moves-unit Write s w a in
     read-good (after step s w) r b
-    (record { store = usable-stays s w (good-usable s w g); call = t; free = ap (λ (u : Unit). conflict (u .rights) (r .nexus) Reads) still ∙ f })
+    (record { store = usable-stays s w (good-usable s w g); call = t; free = ap (λ (u : Unit). conflict (u .rights) (r .nexus) (Moves Read)) still ∙ f })
     .1 (
       subst (λ (u : Unit). addressIn (b .request) + countIn (b .request) ≤ u .capacity) (sym still) (rw (← e .address, ← e .count) (write-inside s w a g)),
       l,
@@ -137,6 +136,6 @@ read-follows s w r a b e g t f l =
 pub fresh-read-good : (capacity slots : ℕ) (medium : List ℕ) (r : Call) → T (capacityOk capacity) → T (slotsOk slots) → length medium ≡ 512 * slots
     → (a : Asks Read r) → byItself r ≡ Good → addressIn (a .request) + countIn (a .request) ≤ capacity → 512 * countIn (a .request) ≤ length (r .dataIn)
     → IsGood (freshStore capacity slots medium) r
-unfolding freshStore freshUnit noRights access conflict stops isOneOf
+unfolding freshStore freshUnit noRights conflict columnOf columnUnder holds oneHolds allHold isOneOf says
 fresh-read-good capacity slots medium r x y e a t h l =
     read-good (freshStore capacity slots medium) r a (record { store = fresh-usable capacity slots medium x y e; call = t; free = refl }) .1 (h, l)

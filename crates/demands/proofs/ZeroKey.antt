@@ -34,7 +34,8 @@ use Rattle.forms.specs.Forms.{allocationIn, listLengthIn}
 use Rattle.store.specs.Store.{Store, Call, seenOf, usable}
 use Rattle.store.specs.Tell.{told}
 use Rattle.store.specs.Alter.{parametersOf, alterRows}
-use Rattle.store.specs.Step.{guarded, guardRows, step}
+use Rattle.store.specs.Step.{guardRows, step}
+use Rattle.store.proofs.ConflictLaws.{altering-passes}
 use Rattle.store.proofs.Parts.{Cleared, cleared, itself-cleared, guardAnswer}
 use Rattle.store.proofs.StoreLaws.{step-answer}
 use Rattle.demands.specs.History.{after}
@@ -60,8 +61,8 @@ module _ (a : Action) (s : Store) (c : Call) (w : Sends a c) (u : T (usable s)) 
   right = itself-cleared s c u (w .right)
 
   unguarded : guardAnswer (s .unit) c ≡ Good
-  unfolding guardRows guarded firstOf
-  unguarded = rw (w .asked .is, w .asked .command)
+  unfolding guardRows firstOf
+  unguarded = rw (w .asked .is, w .asked .command, altering-passes (s .unit .rights) (c .nexus) a)
 
   -- its keys and its own rows decide
   pub sent-answer : step s c .seen .answer ≡ first (Conflict if keyWrong a (s .unit .rights) (c .nexus) parameters ∷ actionRows a (s .unit .rights) (c .nexus) parameters)

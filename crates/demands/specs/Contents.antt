@@ -15,7 +15,6 @@ use Rattle.pool.specs.Pool.{Pool, free, unmapped, readBlocks, unmapBlocks}
 use Rattle.pool.specs.Alike.{Alike}
 use Rattle.descriptors.specs.declared.Descriptor.{Descriptor}
 use Rattle.descriptors.specs.Descriptors.{descriptorAt, considered}
-use Rattle.rights.specs.Conflict.{conflict}
 use Rattle.forms.specs.declared.Move.{Move}
 use Rattle.forms.specs.declared.Move.the-variants.{Read, Write, Unmap}
 use Rattle.forms.specs.declared.Command.{Command}
@@ -27,7 +26,7 @@ use Rattle.forms.specs.Forms.{entryOf, asks, askedOf, countIn, listLengthIn}
 use Rattle.forms.specs.Tests.{codeRows, lengthRows, fieldRows}
 use Rattle.store.specs.declared.Unit.{Unit}
 use Rattle.store.specs.Store.{Store, Call, usable}
-use Rattle.store.specs.Move.{access}
+use Rattle.store.specs.Conflict.{conflict}
 use Rattle.store.specs.Step.{callRows, step}
 
 -- ---- a call on the blocks
@@ -63,7 +62,7 @@ byItself c =
 pub record Reaches {m : Move} {c : Call} (s : Store) (a : Asks m c) : Type 0 where
   pub store : T (usable s)
   pub call : byItself c ≡ Good
-  pub free : conflict (s .unit .rights) (c .nexus) (access m) ≡ false
+  pub free : conflict (s .unit .rights) (c .nexus) (Moves m) ≡ false
 
 -- its blocks lie within the capacity
 abbrev pub Inside : Store → Request → Type 0

@@ -6,9 +6,9 @@ use mathlib.Core.List.{List, [], _∷_, map}
 use lib.Dec.{eqb, leb}
 use Rattle.fields.specs.Field.{byte}
 use Rattle.rights.specs.Bounds.{lastNexus}
-use Rattle.rights.specs.Conflict.{shutOut}
 use Rattle.store.specs.declared.Unit.{Unit}
 use Rattle.store.specs.Store.{Store, Call, Seen, Result, usable}
+use Rattle.store.specs.Conflict.{shutOut}
 
 -- ---- machines
 

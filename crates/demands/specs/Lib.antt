@@ -12,6 +12,7 @@ pub mod Demands
 pub mod AtC
 pub mod FromFresh
 pub mod Reservations
+pub mod ConflictTable
 pub mod Telling
 pub mod ZeroKey
 pub mod WrongBuilds

@@ -14,6 +14,7 @@ use Rattle.demands.specs.History.{machine}
 use Rattle.demands.specs.Contents.{plain}
 use Rattle.demands.specs.Demands.{Demand1, Demand2, Storage, Demand3, Secrecy}
 use Rattle.demands.specs.Reservations.{Reservations}
+use Rattle.demands.specs.ConflictTable.{TableIsRule, CellsDecide}
 use Rattle.demands.specs.ZeroKey.{ZeroKey, RulesAgree, Story, TakenOver}
 use Rattle.demands.specs.Telling.{Telling}
 use Rattle.demands.specs.FromFresh.{FromFresh}
@@ -26,6 +27,8 @@ pub record Proved : Type 0 where
   pub demand-2 : Demand2 step
   pub storage : Storage
   pub reservations : Reservations step
+  pub table-is-rule : TableIsRule
+  pub cells-decide : CellsDecide step
   pub zero-key : ZeroKey step
   pub rules-agree : RulesAgree
   pub telling : Telling step

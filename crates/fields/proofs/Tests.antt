@@ -106,3 +106,19 @@ T-true false t = absurd t
 pub T-false : (b : Bool) → T (not b) → b ≡ false
 T-false true t = absurd t
 T-false false t = refl
+
+-- a test at both values
+pub both-bits : (P : Bool → Bool) → T (P true && P false) → (b : Bool) → T (P b)
+both-bits P t true = and-l (P true) (P false) t
+both-bits P t false = and-r (P true) (P false) t
+
+-- two tests that say the same
+unfoldable pub agree : Bool → Bool → Bool
+agree a b = elim a [ true ↦ b | false ↦ not b ]
+
+pub agree-same : (a b : Bool) → T (agree a b) → a ≡ b
+unfolding agree
+agree-same true true t = refl
+agree-same true false t = absurd t
+agree-same false true t = absurd t
+agree-same false false t = refl

@@ -1,7 +1,6 @@
 // The types of a reservation.
 ghost use mathlib.Core.Path.{_≡_};
-ghost use mathlib.Core.List.{[], _∷_};
-ghost use Rattle.rights.specs.Rights.{isOneOf, oneHolds, allHold};
+ghost use Rattle.rights.specs.Rights.{oneHolds, allHold};
 
 // Whether one nexus holds.
 pub fn one_holds(kind: u32) -> bool
@@ -24,16 +23,5 @@ pub fn all_hold(kind: u32) -> bool
         7 => true,
         8 => true,
         0..=6 | 9..=0xFFFF_FFFF => false,
-    }
-}
-
-// Whether registered nexuses pass beside the holder.
-pub fn registrants_pass(kind: u32) -> bool
-    ensures { λ r. ⌜ r ≡ isOneOf kind (5 ∷ 6 ∷ []) ⌝ }
-{
-    match kind {
-        5 => true,
-        6 => true,
-        0..=4 | 7..=0xFFFF_FFFF => false,
     }
 }

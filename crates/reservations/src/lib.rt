@@ -1,5 +1,4 @@
-// Who may do what: the registration places, the rights as a whole, the conflict rule.
-pub mod conflict;
+// Who may do what: the registration places and the rights as a whole.
 pub mod kinds;
 pub mod places;
 pub mod standing;

@@ -12,7 +12,7 @@ use Rattle.rights.specs.Places.{unused, registration, used, isOf, regist
 use Rattle.rights.specs.Rights.{isOneOf, isType, oneHolds, allHold, holds, holderKey, placesApart, stands, rightsOk, withPlaces, withReservation, withGeneration, held, gone, ended, settled, raised}
 use Rattle.rights.specs.Actions.{registering, reserving, preempting}
 use Rattle.rights.proofs.RightsLaws.{one-not-none, one-not-all}
-use Rattle.rights.proofs.ConflictLaws.{types}
+use Rattle.rights.proofs.Types.{types}
 use Rattle.rights.proofs.Keeping.{isOf-used, isOf-nexus, isOf-of, apart-others, apart-rest, thin-isOf, thin-registered, rekeyed-thin, without-thin, registered-somebody, type-one, holder-there, rights-stand, enrol-stays}
 
 -- ---- keys

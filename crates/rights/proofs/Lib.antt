@@ -1,5 +1,5 @@
 pub mod RightsLaws
-pub mod ConflictLaws
+pub mod Types
 pub mod DecisionLaws
 pub mod Keeping
 pub mod Generation

@@ -1,4 +1,4 @@
-// Who may do what, as a meaning: registrations, the reservation, the conflict rule, the six actions and what is told of them.
+// Who may do what, as a meaning: registrations, the reservation, the six actions and what is told of them.
 // No code: the types stand here, what they mean in specs/, the laws in proofs/.
 use answers::Answer;
 
@@ -22,12 +22,6 @@ pub struct Rights {
     pub holder: u64,
     pub generation: u32,
     pub kind: u32,
-}
-
-// What a command wants of the blocks.
-pub enum Access {
-    Reads,
-    Writes,
 }
 
 // The service actions of PERSISTENT RESERVE OUT.

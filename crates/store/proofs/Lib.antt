@@ -1,3 +1,4 @@
+pub mod ConflictLaws
 pub mod Parts
 pub mod StoreLaws
 pub mod MoveLaws

@@ -19,10 +19,11 @@ use Rattle.store.specs.declared.Unit.{Unit}
 use Rattle.store.specs.Store.{Store, Call, withRights, leaves, seenOf}
 use Rattle.store.specs.Tell.{told, tellRows}
 use Rattle.store.specs.Alter.{parametersOf, alterRows}
-use Rattle.store.specs.Step.{guarded, guardRows, commandRows, ownRows, commandData, dataBy, commandStore, storeBy, stepBy, step, answerTo}
+use Rattle.store.specs.Conflict.{conflict}
+use Rattle.store.specs.Step.{guardRows, commandRows, ownRows, commandData, dataBy, commandStore, storeBy, stepBy, step, answerTo}
 
 -- "Testing room before the conflict, which tells an outsider how full the pool is": the guard sees the rights alone, and no block or mapping
-pub guard-stops : (q : Request) (r : Rights) (n : ℕ) → guarded (q .command) r n ≡ true → first (guardRows (asks q) r n) ≡ Conflict
+pub guard-stops : (q : Request) (r : Rights) (n : ℕ) → conflict r n (q .command) ≡ true → first (guardRows (asks q) r n) ≡ Conflict
 unfolding guardRows
 guard-stops q r n e = row-stop Conflict _ _ e
 

@@ -2,5 +2,6 @@ pub mod Store
 pub mod Tell
 pub mod Move
 pub mod Alter
+pub mod Conflict
 pub mod Step
 pub mod Fresh

@@ -11,19 +11,11 @@ use Rattle.answers.specs.Order.{Row, _if_}
 use Rattle.pool.specs.Bounds.{blockBytes}
 use Rattle.pool.specs.Pool.{Pool, withOwners, readBlocks, writeBlocks, roomFor}
 use Rattle.descriptors.specs.Descriptors.{mostDescriptors, considered, someFails, unmapAll}
-use Rattle.rights.specs.declared.Access.{Access}
-use Rattle.rights.specs.declared.Access.the-variants.{Reads, Writes}
 use Rattle.forms.specs.declared.Move.{Move}
 use Rattle.forms.specs.declared.Move.the-variants.{Read, Write, Unmap}
 use Rattle.forms.specs.declared.Request.{Request}
 use Rattle.forms.specs.Forms.{countIn, listLengthIn}
 use Rattle.store.specs.Store.{Call}
-
--- what a command wants of the blocks
-unfoldable pub access : Move → Access
-access Read = Reads
-access Write = Writes
-access Unmap = Writes
 
 -- "block address + count > capacity"; the sum is one of numbers and cannot wrap
 unfoldable pub pastEnd : ℕ → ℕ → ℕ → Bool

@@ -1,6 +1,6 @@
 -- One call: the one order of tests, and what comes of it.
 -- Assumes nothing.
-use mathlib.Core.Bool.{Bool, false, not}
+use mathlib.Core.Bool.{not}
 use mathlib.Core.List.{List, [], _∷_, _++_}
 use Prim.Native.Nat.{ℕ}
 use lib.Dec.{eqb, ltb}
@@ -11,7 +11,6 @@ use Rattle.answers.specs.Answers.{senseBytes}
 use Rattle.answers.specs.Order.{Row, _if_, first}
 use Rattle.rights.specs.declared.Rights.{Rights}
 use Rattle.rights.specs.Bounds.{lastNexus}
-use Rattle.rights.specs.Conflict.{conflict}
 use Rattle.rights.specs.Actions.{acted}
 use Rattle.forms.specs.declared.Command.{Command}
 use Rattle.forms.specs.declared.Command.the-variants.{Tells, Moves, Alters}
@@ -21,8 +20,9 @@ use Rattle.forms.specs.Forms.{entryOf, Asked, nothing, asks, askedIn, allocatio
 use Rattle.forms.specs.Tests.{codeRows, lengthRows, fieldRows}
 use Rattle.store.specs.Store.{Store, Call, Result, withRights, withUnit, withPool, usable, leaves, seenOf}
 use Rattle.store.specs.Tell.{told, tellRows}
-use Rattle.store.specs.Move.{access, moveRows, moved, fetched}
+use Rattle.store.specs.Move.{moveRows, moved, fetched}
 use Rattle.store.specs.Alter.{parametersOf, alterRows}
+use Rattle.store.specs.Conflict.{conflict}
 
 -- ---- the order, stage by stage
 
@@ -38,18 +38,12 @@ callRows c =
 unfoldable pub storeRows : Store → List Row
 storeRows s = Unusable if not (usable s) ∷ []
 
--- is a command in conflict with the reservation: those on the blocks alone are guarded by it
-unfoldable pub guarded : Command → Rights → ℕ → Bool
-guarded (Tells t) r n = false
-guarded (Moves m) r n = conflict r n (access m)
-guarded (Alters a) r n = false
-
--- "READ: 10, … WRITE: 10, … UNMAP: 10; …"
+-- "READ: 10, … WRITE: 10, … UNMAP: 10; …": the row of the command decides
 unfoldable pub guardRows : Asked → Rights → ℕ → List Row
 guardRows nothing r n = []
-guardRows (asks q) r n = Conflict if guarded (q .command) r n ∷ []
+guardRows (asks q) r n = Conflict if conflict r n (q .command) ∷ []
 
--- "Then 1. Then 11 again …. Then 2: …", and the 10 of the commands on the blocks
+-- "Then 1. Then 11 again …. Then 2: …", and the 10 of the conflict table
 unfoldable pub stageRows : Entry → Rights → ℕ → List ℕ → List Row
 stageRows e r n cdb = codeRows e ++ (lengthRows e cdb ++ (fieldRows e cdb ++ guardRows (askedIn e cdb) r n))
 

@@ -1,5 +1,5 @@
 // The store, as a meaning: what one call answers and leaves, and what a fresh store is.
-// No code: the unit's record stands here, `step` and `fresh` in specs/, their laws in proofs/.
+// No code: the unit's record and the columns of the conflict table stand here, `step` and `fresh` in specs/, their laws in proofs/.
 use rights::Rights;
 
 // The record of one unit: all that everybody may know of it.
@@ -7,4 +7,10 @@ use rights::Rights;
 pub struct Unit {
     pub capacity: u64,
     pub rights: Rights,
+}
+
+// Where a call falls in the conflict table, by the reservation and its sender: in a column, counted from the left, or in none.
+pub enum Column {
+    Free,
+    At(usize),
 }

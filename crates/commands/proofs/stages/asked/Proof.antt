@@ -1,6 +1,6 @@
 -- `commands::stages::asked` meets its contract. Assumes nothing.
 use mathlib.Core.Path.{sym, _∙_}
-use Rattle.commands.proofs.StageLaws.{long-least, asked-unlisted, asked-length, asked-wrong, asked-guarded, asked-passes}
+use Rattle.commands.proofs.StageLaws.{long-least, asked-unlisted, asked-length, asked-wrong, asked-conflict, asked-passes}
 use borrow.Author.Needs.{needs}
 use Rattle.commands.proofs.stages.asked.Statement.{statement}
 use Rattle.commands.proofs.stages.asked.Tie as tie
@@ -33,17 +33,17 @@ enum-known-decoded c = search needs
 enum-known-decoded-2 : tie.Need-enum-known-decoded-2
 enum-known-decoded-2 c = search needs
 
-is-guarded-requires : tie.Need-is-guarded-requires
-is-guarded-requires c κs = search needs
+conflicts-requires : tie.Need-conflicts-requires
+conflicts-requires c κs = search needs
 
 returns-3 : tie.Need-returns-3
-returns-3 c = asked-guarded _ _ _ _ _ (sym (c .before .before .before .before .before .before .before .before .before .before .before .entry-of .ensures) ∙ (c .before .before .before .before .before .before .before .before .before .entry .given .1)) (c .before .before .before .before .before .before .if1 .left) _ (c .before .before .before .before .before .request .ensures) _ (c .before .before .before .decoded2 .given .1) (sym (c .before .is-guarded .ensures) ∙ (c .if2 .taken))
+returns-3 c = asked-conflict _ _ _ _ _ (sym (c .before .before .before .before .before .before .before .before .before .before .before .entry-of .ensures) ∙ (c .before .before .before .before .before .before .before .before .before .entry .given .1)) (c .before .before .before .before .before .before .if1 .left) _ (c .before .before .before .before .before .request .ensures) _ (c .before .before .before .decoded2 .given .1) (sym (c .before .conflicts .ensures) ∙ (c .if2 .taken))
 
 returns-4 : tie.Need-returns-4
 returns-4 c = asked-wrong _ _ _ _ _ (sym (c .before .before .before .before .before .before .before .before .before .entry-of .ensures) ∙ (c .before .before .before .before .before .before .before .entry .given .1)) (c .before .before .before .before .if1 .left) _ (c .before .before .before .request .ensures) _ (c .before .decoded .given .1)
 
 returns-5 : tie.Need-returns-5
-returns-5 c = asked-passes _ _ _ _ _ (sym (c .before .before .before .before .before .before .before .before .before .before .before .entry-of .ensures) ∙ (c .before .before .before .before .before .before .before .before .before .entry .given .1)) (c .before .before .before .before .before .before .if1 .left) _ (c .before .before .before .before .before .request .ensures) _ (c .before .before .before .decoded2 .given .1) (sym (c .before .is-guarded .ensures) ∙ (c .if2 .left))
+returns-5 c = asked-passes _ _ _ _ _ (sym (c .before .before .before .before .before .before .before .before .before .before .before .entry-of .ensures) ∙ (c .before .before .before .before .before .before .before .before .before .entry .given .1)) (c .before .before .before .before .before .before .if1 .left) _ (c .before .before .before .before .before .request .ensures) _ (c .before .before .before .decoded2 .given .1) (sym (c .before .conflicts .ensures) ∙ (c .if2 .left))
 
 pub asked-spec : {M : Type 1} → statement M
 asked-spec =
@@ -58,7 +58,7 @@ asked-spec =
     request-requires
     enum-known-decoded
     enum-known-decoded-2
-    is-guarded-requires
+    conflicts-requires
     returns-3
     returns-4
     returns-5)

@@ -26,16 +26,20 @@ enum {
     TRANSFER_BYTES = RIDGE_TRANSFER_BLOCKS * RIDGE_BLOCK_BYTES,
     LIST_BYTES = 24,
     DESCRIPTORS_BYTES = 8 + RIDGE_DESCRIPTORS * 16,
-    DESCRIPTOR_BLOCKS = RIDGE_SLOTS / RIDGE_DESCRIPTORS
+    DESCRIPTOR_BLOCKS = RIDGE_SLOTS / RIDGE_DESCRIPTORS,
+    STATUS_BYTES = 8 + RIDGE_STATUS_DESCRIPTORS * 16
 };
 
-enum sends { NOTHING, BLOCKS, DESCRIPTORS, KEYS };
+/* One block: a pattern, zeros, or zeros up to its last byte. */
+enum sends { NOTHING, BLOCKS, PATTERN, ZEROS, ALMOST_ZEROS, DESCRIPTORS, KEYS };
 
 /* Which block slot i holds. SCATTERED: 37 i mod 128, so that blocks in rising
-   order lie in scattered slots. EVERY: i x 2^step. RANDOM: any below 2^40.
-   CHOSEN: of those whose owner numbers share a bucket of the check, the ith.
-   TWICE: as SCATTERED, but the last slot holds the block of the one before. */
-enum layout { SCATTERED, EVERY, RANDOM, CHOSEN, TWICE };
+   order lie in scattered slots. APART: step times that. EVERY: i x 2^step.
+   FALLING: the same from the last slot down, which is the dearest order for a
+   search of the next block. RANDOM: any below 2^40. CHOSEN: of those whose owner
+   numbers share a bucket of the check, the ith. TWICE: as SCATTERED, but the
+   last slot holds the block of the one before. */
+enum layout { SCATTERED, APART, EVERY, FALLING, RANDOM, CHOSEN, TWICE };
 
 /* One row of the table. Place i is nexus i with key 10h + i. */
 struct operation {
@@ -51,10 +55,20 @@ struct operation {
 };
 
 #define FULL .slots = 128, .full = 128
-#define FAR(where, every) FULL, .layout = where, .step = every, .cdb_bytes = 6
+#define AT(where, every) FULL, .layout = where, .step = every
+#define FAR(where, every) AT(where, every), .cdb_bytes = 6
+#define SAME(flags, blocks) \
+    .cdb_bytes = 16, .cdb = {0x93, flags, [13] = blocks}
+#define SAME_128(flags) .moved = TRANSFER_BYTES, SAME(flags, 128)
+#define STATUS(bytes)                \
+    .moved = bytes, .cdb_bytes = 16, \
+    .cdb = {0x9E, 0x12, [12] = STATUS_BYTES >> 8, STATUS_BYTES & 0xFF}
 #define HELD FULL, .places = 8, .type = 1, .holder = 7, .cdb_bytes = 10
 #define SHARED FULL, .places = 8, .type = 6, .holder = 7, .cdb_bytes = 10
 #define OUT HELD, .sends = KEYS, .moved = LIST_BYTES
+
+/* Of byte 1 of WRITE SAME. */
+enum { UNMAP = 0x08, NDOB = 0x01 };
 
 static const struct operation operations[] = {
     {"TEST UNIT READY, 1 full slot", .slots = 1, .full = 1, .cdb_bytes = 6},
@@ -67,6 +81,12 @@ static const struct operation operations[] = {
     {"TEST UNIT READY, 128 blocks, one every 2^16", FAR(EVERY, 16)},
     {"TEST UNIT READY, 128 blocks, one every 2^24", FAR(EVERY, 24)},
     {"TEST UNIT READY, 128 blocks, one every 2^30", FAR(EVERY, 30)},
+    {"TEST UNIT READY, 128 blocks, one every 1000", FAR(APART, 1000)},
+    {"TEST UNIT READY, 128 blocks, every second one", FAR(APART, 2)},
+    {"TEST UNIT READY, 128 blocks, every second one, falling", FAR(FALLING, 1)},
+    {"TEST UNIT READY, 128 blocks, one every 2^32, falling", FAR(FALLING, 32)},
+    {"TEST UNIT READY, capacity 2^40, 128 free slots", .slots = 128,
+     .layout = EVERY, .cdb_bytes = 6},
     {"TEST UNIT READY, 128 blocks of one bucket", FAR(CHOSEN, 0)},
     {"TEST UNIT READY, 128 full slots, the last two alike (11)",
      FAR(TWICE, 0), .answer = RIDGE_UNUSABLE},
@@ -99,6 +119,41 @@ static const struct operation operations[] = {
     {"WRITE(10), 128 blocks, refused for room (8)", FULL, .sends = BLOCKS,
      .answer = RIDGE_POOL_FULL, .cdb_bytes = 10,
      .cdb = {0x2A, [4] = 2, [8] = 128}},
+    {"WRITE SAME(16), 1 block, mapped", FULL, .moved = 512, .sends = PATTERN,
+     SAME(0, 1)},
+    {"WRITE SAME(16), 128 blocks, mapped", FULL, .sends = PATTERN, SAME_128(0)},
+    {"WRITE SAME(16), 128 blocks, new, 128 free slots", .slots = 128,
+     .sends = PATTERN, SAME_128(0)},
+    {"WRITE SAME(16), 128 blocks, NDOB, mapped", FULL, SAME_128(NDOB)},
+    {"WRITE SAME(16), 128 blocks, NDOB, new, 128 free slots", .slots = 128,
+     SAME_128(NDOB)},
+    {"WRITE SAME(16), 128 blocks, UNMAP, zeros up to the last byte, mapped",
+     FULL, .sends = ALMOST_ZEROS, SAME_128(UNMAP)},
+    {"WRITE SAME(16), 128 blocks, UNMAP and zeros, mapped", FULL,
+     .sends = ZEROS, .moved = 512, SAME(UNMAP, 128)},
+    {"WRITE SAME(16), 128 blocks, UNMAP and NDOB, mapped", FULL,
+     SAME(UNMAP | NDOB, 128)},
+    {"WRITE SAME(16), 128 blocks, UNMAP and NDOB, 128 free slots",
+     .slots = 128, SAME(UNMAP | NDOB, 128)},
+    {"GET LBA STATUS, 1 run, 128 free slots", .slots = 128, STATUS(24)},
+    {"GET LBA STATUS, 1 run, 128 full slots", FULL, .moved = 24,
+     .cdb_bytes = 16, .cdb = {0x9E, 0x12, [8] = 2, [13] = 24}},
+    {"GET LBA STATUS, 2 runs, 128 full slots", FULL, STATUS(40)},
+    {"GET LBA STATUS, 32 runs, 128 blocks, one every 1000", AT(APART, 1000),
+     STATUS(STATUS_BYTES)},
+    {"GET LBA STATUS, 32 runs, 128 blocks, every second one", AT(APART, 2),
+     STATUS(STATUS_BYTES)},
+    {"GET LBA STATUS, 32 runs, 128 blocks, every second one, falling",
+     AT(FALLING, 1), STATUS(STATUS_BYTES)},
+    {"GET LBA STATUS, 32 runs, 128 blocks, one every 2^32, falling",
+     AT(FALLING, 32), STATUS(STATUS_BYTES)},
+    {"GET LBA STATUS, 32 runs, capacity 2^40, 128 free slots", .slots = 128,
+     .layout = EVERY, STATUS(STATUS_BYTES)},
+    {"GET LBA STATUS, 32 runs, 128 random blocks", AT(RANDOM, 0),
+     STATUS(STATUS_BYTES)},
+    {"GET LBA STATUS, refused by the reservation (10)", FULL,
+     .places = 8, .type = 6, .holder = 7, .nexus = 8,
+     .answer = RIDGE_CONFLICT, .cdb_bytes = 16, .cdb = {0x9E, 0x12, [13] = 24}},
     {"UNMAP, 16 descriptors, all 128 slots freed", FULL, .sends = DESCRIPTORS,
      .moved = DESCRIPTORS_BYTES, .cdb_bytes = 10,
      .cdb = {0x42, [7] = DESCRIPTORS_BYTES >> 8, DESCRIPTORS_BYTES & 0xFF}},
@@ -161,6 +216,22 @@ static uint64_t bucket(uint64_t owner)
     return owner % (UINT64_C(1) << 36) * 247175911 / (1 << 28) % 256;
 }
 
+/* The layouts that go by the slot alone. */
+static uint64_t block_of(uint64_t slot)
+{
+    uint64_t scattered = slot * 37 % RIDGE_SLOTS;
+    switch (operation->layout) {
+    case APART:
+        return scattered * operation->step;
+    case EVERY:
+        return slot << operation->step;
+    case FALLING:
+        return (RIDGE_SLOTS - 1 - slot) << operation->step;
+    default:
+        return scattered;
+    }
+}
+
 static void prepare_owners(void)
 {
     uint64_t random = 1, chosen = 0;
@@ -170,10 +241,9 @@ static void prepare_owners(void)
             chosen++;
         while (bucket(chosen) != 0);
         saved_owners[slot] =
-            operation->layout == EVERY ? 1 + ((uint64_t)slot << operation->step)
-            : operation->layout == RANDOM ? 1 + random % RIDGE_CAPACITY_LAST
+            operation->layout == RANDOM ? 1 + random % RIDGE_CAPACITY_LAST
             : operation->layout == CHOSEN ? chosen
-                                          : 1 + slot * 37 % RIDGE_SLOTS;
+                                          : 1 + block_of(slot);
     }
     if (operation->layout == TWICE)
         saved_owners[operation->full - 1] = saved_owners[operation->full - 2];
@@ -202,6 +272,18 @@ static void prepare_blocks(void)
         data_out[i] = (uint8_t)(i * 5 + i / 512);
 }
 
+/* What WRITE SAME sends. */
+static void prepare_block(void)
+{
+    prepare_blocks();
+    data_out_bytes = RIDGE_BLOCK_BYTES;
+    if (operation->sends == PATTERN)
+        return;
+    memset(data_out, 0, RIDGE_BLOCK_BYTES);
+    if (operation->sends == ALMOST_ZEROS)
+        data_out[RIDGE_BLOCK_BYTES - 1] = 1;
+}
+
 /* The descriptors take equal shares of the pool's 128 blocks. */
 static void prepare_descriptors(void)
 {
@@ -224,12 +306,24 @@ static void prepare_keys(void)
 static void prepare(void)
 {
     prepare_store();
-    if (operation->sends == BLOCKS)
+    switch (operation->sends) {
+    case NOTHING:
+        return;
+    case BLOCKS:
         prepare_blocks();
-    if (operation->sends == DESCRIPTORS)
+        return;
+    case PATTERN:
+    case ZEROS:
+    case ALMOST_ZEROS:
+        prepare_block();
+        return;
+    case DESCRIPTORS:
         prepare_descriptors();
-    if (operation->sends == KEYS)
+        return;
+    case KEYS:
         prepare_keys();
+        return;
+    }
 }
 
 static void restore(void)

@@ -414,9 +414,18 @@ static const char *source_cell(char letter)
         return "Conflict";
     case 'n':
         return "Allowed (d)";
+    case 'p':
+        return "no row (a)";
+    case 'u':
+        return "no row (g)";
     default:
         return "empty (e)";
     }
+}
+
+static bool is_opposite(char left, char right)
+{
+    return (left == 'A' && right == 'C') || (left == 'C' && right == 'A');
 }
 
 /* A mark stands exactly where 004 has no row, or another cell than ours. */
@@ -429,14 +438,12 @@ static void print_served(void)
         printf("served|%s|here", row->name);
         for (size_t column = 0; column < COLUMNS; column++)
             printf("|%s", source_cell(cells[number][column] == 0 ? 'A' : 'C'));
-        printf("\nserved|%s|004", row->source_name != NULL ? row->source_name : "");
+        printf("\nserved|%s|004", row->source_name);
         for (size_t column = 0; column < COLUMNS; column++) {
             char ours = cells[number][column] == 0 ? 'A' : 'C';
-            if (row->source_cells == NULL)
-                printf("|no row (a)");
-            else
-                printf("|%s%s", source_cell(row->source_cells[column]),
-                       row->source_cells[column] == ours ? "" : " (b)");
+            char theirs = row->source_cells[column];
+            printf("|%s%s", source_cell(theirs),
+                   is_opposite(ours, theirs) ? " (b)" : "");
         }
         puts("");
     }

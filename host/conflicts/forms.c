@@ -6,6 +6,13 @@
 #define MOVE_16(code, at, blocks) \
     .cdb_bytes = 16, .cdb = {code, [9] = at, [13] = blocks}
 #define WRITES(blocks) .sends = BLOCKS, .data_out_bytes = (blocks)*RIDGE_BLOCK_BYTES
+#define ZEROS .sends = NOTHING, .data_out_bytes = RIDGE_BLOCK_BYTES
+#define SAME(flags, at, blocks) \
+    .cdb_bytes = 16, .cdb = {0x93, flags, [9] = at, [13] = blocks}
+#define STATUS(at, allocation)    \
+    .cdb_bytes = 16,              \
+    .cdb = {0x9E, 0x12, [9] = at, \
+            [12] = (allocation) >> 8, (allocation)&0xFF}
 #define UNMAPS(number, at, bytes)                                       \
     .sends = DESCRIPTORS, .descriptors = number, .address = at,         \
     .data_out_bytes = bytes, .cdb_bytes = 10,                           \
@@ -16,6 +23,24 @@
 #define FAULT(number) .rule = LATER, .answer = number
 #define AT_ONCE(number) .rule = ALWAYS, .answer = number
 #define KNOWN (HOLDS | REGISTERED)
+
+/* It has its code from READ CAPACITY(16), and the action tells them apart. The
+   bits above the action's are ignored. */
+static const struct form status[] = {
+    {"GET LBA STATUS, mapped", STATUS(MAPPED, STATUS_BYTES)},
+    {"GET LBA STATUS, unmapped", STATUS(UNMAPPED, STATUS_BYTES)},
+    {"GET LBA STATUS, the last block", STATUS(CAPACITY - 1, STATUS_BYTES)},
+    {"GET LBA STATUS, cut", STATUS(0, 24)},
+    {"GET LBA STATUS, allocation length 0", STATUS(MAPPED, 0)},
+    {"GET LBA STATUS, upper bits of byte 1", .cdb_bytes = 16,
+     .cdb = {0x9E, 0xF2, [9] = MAPPED, [13] = 24}},
+    {"GET LBA STATUS, start at the end", FAULT(RIDGE_ADDRESS_RANGE),
+     STATUS(CAPACITY, STATUS_BYTES)},
+    {"GET LBA STATUS, start past the end", FAULT(RIDGE_ADDRESS_RANGE),
+     STATUS(CAPACITY + 1, 0)},
+    {"GET LBA STATUS, short data-in", FAULT(RIDGE_BUFFER_SHORT),
+     .data_in_bytes = 23, STATUS(MAPPED, 24)},
+};
 
 static const struct form inquiry[] = {
     {"INQUIRY", .cdb_bytes = 6, .cdb = {0x12, [4] = 36}},
@@ -157,19 +182,61 @@ static const struct form writing[] = {
      MOVE_16(0x8A, MAPPED, 129)},
 };
 
+/* Of byte 1. */
+enum { WRPROTECT = 0x20, ANCHOR = 0x10, UNMAP = 0x08, NDOB = 0x01 };
+
+static const struct form writing_same[] = {
+    {"WRITE SAME(16), mapped", WRITES(1), SAME(0, MAPPED, 2)},
+    {"WRITE SAME(16), new", WRITES(1), SAME(0, UNMAPPED, 1)},
+    {"WRITE SAME(16), NDOB", SAME(NDOB, MAPPED, 2)},
+    {"WRITE SAME(16), UNMAP and zeros", ZEROS, SAME(UNMAP, MAPPED, 2)},
+    {"WRITE SAME(16), UNMAP and zeros, unmapped", ZEROS,
+     SAME(UNMAP, UNMAPPED, 40)},
+    {"WRITE SAME(16), UNMAP and NDOB", SAME(UNMAP | NDOB, MAPPED, 2)},
+    {"WRITE SAME(16), UNMAP and a pattern", WRITES(1), SAME(UNMAP, MAPPED, 2)},
+    {"WRITE SAME(16), past the end", FAULT(RIDGE_ADDRESS_RANGE), WRITES(1),
+     SAME(0, CAPACITY, 1)},
+    {"WRITE SAME(16), UNMAP past the end", FAULT(RIDGE_ADDRESS_RANGE), ZEROS,
+     SAME(UNMAP, CAPACITY - 1, 2)},
+    {"WRITE SAME(16), short data-out", FAULT(RIDGE_BUFFER_SHORT),
+     .sends = BLOCKS, .data_out_bytes = 511, SAME(0, MAPPED, 1)},
+    {"WRITE SAME(16), UNMAP, short data-out", FAULT(RIDGE_BUFFER_SHORT),
+     .data_out_bytes = 511, SAME(UNMAP, MAPPED, 1)},
+    {"WRITE SAME(16), no room", FAULT(RIDGE_POOL_FULL), WRITES(1),
+     SAME(0, UNMAPPED, 2)},
+    {"WRITE SAME(16), zeros, no room", FAULT(RIDGE_POOL_FULL), ZEROS,
+     SAME(0, UNMAPPED, 2)},
+    {"WRITE SAME(16), NDOB, no room", FAULT(RIDGE_POOL_FULL),
+     SAME(NDOB, UNMAPPED, 2)},
+    {"WRITE SAME(16), UNMAP and a pattern, no room", FAULT(RIDGE_POOL_FULL),
+     WRITES(1), SAME(UNMAP, UNMAPPED, 2)},
+    {"WRITE SAME(16), WRPROTECT", AT_ONCE(RIDGE_CDB_FIELD), WRITES(1),
+     SAME(WRPROTECT, MAPPED, 1)},
+    {"WRITE SAME(16), ANCHOR", AT_ONCE(RIDGE_CDB_FIELD), WRITES(1),
+     SAME(ANCHOR, MAPPED, 1)},
+    {"WRITE SAME(16), UNMAP and ANCHOR", AT_ONCE(RIDGE_CDB_FIELD), ZEROS,
+     SAME(UNMAP | ANCHOR, MAPPED, 1)},
+    {"WRITE SAME(16), count 0", AT_ONCE(RIDGE_CDB_FIELD), WRITES(1),
+     SAME(0, MAPPED, 0)},
+    {"WRITE SAME(16), 129 blocks", AT_ONCE(RIDGE_CDB_FIELD), WRITES(1),
+     SAME(0, MAPPED, 129)},
+};
+
 #define OF(forms) forms, sizeof forms / sizeof forms[0]
 
 /* The cells are those of 004, typed off its Table 3 and, for UNMAP, off the line
    that it adds below. */
 const struct row rows[] = {
-    {"INQUIRY", NULL, NULL, OF(inquiry)},
-    {"PERSISTENT RESERVE IN", NULL, NULL, OF(reserve_in)},
-    {"PERSISTENT RESERVE OUT", NULL, NULL, OF(reserve_out)},
+    {"GET LBA STATUS", "", "uuuuu", OF(status)},
+    {"INQUIRY", "", "ppppp", OF(inquiry)},
+    {"PERSISTENT RESERVE IN", "", "ppppp", OF(reserve_in)},
+    {"PERSISTENT RESERVE OUT", "", "ppppp", OF(reserve_out)},
     {"READ (10)/(16)", "READ (6)/(10)/(12)/(16)/(32)", "ACAAC", OF(reading)},
     {"READ CAPACITY (10)/(16)", "READ CAPACITY (10)/(16)", "AAAAA", OF(capacity)},
-    {"TEST UNIT READY", NULL, NULL, OF(test_ready)},
+    {"TEST UNIT READY", "", "ppppp", OF(test_ready)},
     {"UNMAP", "UNMAP", "CCACC", OF(unmapping)},
     {"WRITE (10)/(16)", "WRITE (6)/(10)/(12)/(16)/(32)", "CCACC", OF(writing)},
+    {"WRITE SAME (16)", "WRITE SAME (10)/(16)/(32)", "CCACC", OF(writing_same)},
 };
 const size_t rows_count = sizeof rows / sizeof rows[0];
 
@@ -214,9 +281,8 @@ const struct other_row other_rows[] = {
       CODE_16("(16)", 0x8E, [13] = 1), CODE_32(0x0C)}},
     {"WRITE LONG (10)/(16)", "CCACC",
      {CODE_10("(10)", 0x3F, [8] = 1), CODE_16("(16)", 0x9F, 0x11, [13] = 1)}},
-    {"WRITE SAME (10)/(16)/(32)", "CCACC",
-     {CODE_10("(10)", 0x41, [8] = 1), CODE_16("(16)", 0x93, [13] = 1),
-      CODE_32(0x0D)}},
+    {"WRITE SAME (10)/(32)", "CCACC",
+     {CODE_10("(10)", 0x41, [8] = 1), CODE_32(0x0D)}},
     {"XDREAD (10)/(32)", "ACAAC",
      {CODE_10("(10)", 0x52, [8] = 1), CODE_32(0x03)}},
     {"XDWRITE (10)/(32)", "CCACC",

@@ -21,7 +21,9 @@ enum {
     CDB_ROOM = 32,
     DATA_ROOM = 1024,
     LIST_BYTES = 24,
-    DESCRIPTOR_BYTES = 16
+    DESCRIPTOR_BYTES = 16,
+    /* The most that GET LBA STATUS has to tell. */
+    STATUS_BYTES = 8 + RIDGE_STATUS_DESCRIPTORS * DESCRIPTOR_BYTES
 };
 
 /* In the order of 004. */
@@ -70,10 +72,11 @@ struct form {
 };
 
 /* Cells are letters: A allowed, C conflict, n allowed with a footnote whose
-   text is missing in the extracted text of 004, - nothing there. */
+   text is missing in the extracted text of 004, - nothing there; p no row, for
+   the command is SPC's, u no row, for the command is unknown to 004. */
 struct row {
     const char *name;
-    const char *source_name;  /* 004's name of it; null where it has no row */
+    const char *source_name;  /* 004's name of it; empty where it has no row */
     const char *source_cells; /* what 004 has */
     const struct form *forms;
     size_t count;

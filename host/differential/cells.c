@@ -30,11 +30,13 @@ static const struct {
 
 enum row {
     TEST_UNIT_READY,
+    GET_LBA_STATUS,
     INQUIRY,
     READ_CAPACITY_10,
     READ_CAPACITY_16,
     READ,
     WRITE,
+    WRITE_SAME,
     UNMAP,
     READ_KEYS,
     READ_RESERVATION,
@@ -43,9 +45,10 @@ enum row {
 };
 
 static const char *const row_names[CELL_ROWS] = {
-    "test_unit_ready",  "inquiry",   "read_capacity_10", "read_capacity_16",
-    "read",             "write",     "unmap",            "read_keys",
-    "read_reservation", "reserve_out"};
+    "test_unit_ready",  "get_lba_status", "inquiry", "read_capacity_10",
+    "read_capacity_16", "read",           "write",   "write_same",
+    "unmap",            "read_keys",      "read_reservation",
+    "reserve_out"};
 
 static enum row row_of(const uint8_t *cdb)
 {
@@ -57,13 +60,15 @@ static enum row row_of(const uint8_t *cdb)
     case 0x25:
         return READ_CAPACITY_10;
     case 0x9E:
-        return READ_CAPACITY_16;
+        return (cdb[1] & 0x1F) == 0x12 ? GET_LBA_STATUS : READ_CAPACITY_16;
     case 0x28:
     case 0x88:
         return READ;
     case 0x2A:
     case 0x8A:
         return WRITE;
+    case 0x93:
+        return WRITE_SAME;
     case 0x42:
         return UNMAP;
     case 0x5E:

@@ -11,13 +11,15 @@
  * Both get equal copies of every lent buffer, with random guard bytes on both
  * sides. After each call: the answers and the returned counts are equal, so is
  * every byte of every buffer, and what 01 says of all calls holds (a refusal
- * changes nothing, sense is written for the answers 1 to 8 only, data-in not
- * past the returned bytes, CDB, data-out and guards never; 11 for each of the
- * reasons that come first in 01's order).
+ * changes nothing stored, nor does a command that only asks; sense is written
+ * for the answers 1 to 8 only, data-in not past the returned bytes, CDB,
+ * data-out and guards never; 11 for each of the reasons that come first in 01's
+ * order).
  *
  * Exit status: 0 no difference and every answer met often enough; 1 a
  * difference, which is printed; 2 an answer, command, take-over, cell of the
- * conflict rule or damage too rare (asked of long runs alone), bad usage.
+ * conflict rule, occasion of Q-1 or damage too rare (asked of long runs alone),
+ * bad usage.
  */
 
 #include <inttypes.h>
@@ -30,13 +32,15 @@
 #include "console.h"
 #include "damage.h"
 #include "generate.h"
+#include "occasions.h"
 
 enum {
     CALLS_DEFAULT = 200000,
     CALLS_LONG = 100000, /* from here on every answer must be met often */
     GUARD = 64,         /* bytes before and after each buffer */
     EXTRA_SLOTS = 2,    /* so that 129 slots can be lent */
-    ROOM_SLOTS = RIDGE_SLOTS + EXTRA_SLOTS
+    ROOM_SLOTS = RIDGE_SLOTS + EXTRA_SLOTS,
+    ROWS = 13           /* commands that are counted apart */
 };
 
 enum part { UNIT, OWNERS, MEDIUM, CDB, DATA_OUT, DATA_IN, SENSE, PARTS };
@@ -90,14 +94,15 @@ struct figures {
     uint64_t large_reads;  /* good, of 100 blocks and more */
     uint64_t large_writes;
     uint64_t answers[16];
-    uint64_t by_code[256];
-    uint64_t good_by_code[256];
+    uint64_t by_row[ROWS + 1]; /* the last is for what no row has */
+    uint64_t good_by_row[ROWS + 1];
     uint64_t good_actions[32];
     /* PREEMPT with service action key 0, by type held and type named: taken
        over; by type held: refused by 5, which in PREEMPT has no other cause. */
     uint64_t taken_over[16][16];
     uint64_t zero_keys_refused[16];
     uint64_t cells[CELLS]; /* calls that tell what the cell says */
+    uint64_t occasions[OCCASIONS];
 };
 
 struct run {
@@ -247,6 +252,24 @@ static void hold_unchanged(struct run *run, enum part part, size_t writable)
         fail_part(run, "changed against 01", part, at);
 }
 
+/* Whether the call in hand may change what is stored: WRITE, WRITE SAME, UNMAP
+   and RESERVE OUT do, and so does making a fresh store, which has no CDB. */
+static bool may_store(const struct run *run)
+{
+    if (run->lending.bytes[CDB] == 0)
+        return true;
+    switch (run->before.cdb[0]) {
+    case 0x2A:
+    case 0x8A:
+    case 0x93:
+    case 0x42:
+    case 0x5F:
+        return true;
+    default:
+        return false;
+    }
+}
+
 /* What 01 says of every call, whichever command it is. */
 static void hold_rules(struct run *run)
 {
@@ -261,7 +284,9 @@ static void hold_rules(struct run *run)
     if (run->ridge.returned > run->lending.bytes[DATA_IN])
         fail(run, "more bytes returned than lent");
     for (enum part part = UNIT; part <= MEDIUM; part++)
-        hold_unchanged(run, part, good ? run->lending.bytes[part] : 0);
+        hold_unchanged(run, part, good && may_store(run)
+                                      ? run->lending.bytes[part]
+                                      : 0);
     hold_unchanged(run, CDB, 0);
     hold_unchanged(run, DATA_OUT, 0);
     hold_unchanged(run, DATA_IN, (size_t)run->ridge.returned);
@@ -394,6 +419,45 @@ static void keep_store(struct run *run)
     memcpy(run->store.medium, world->medium, run->lending.bytes[MEDIUM]);
 }
 
+/* ---- Counting ---- */
+
+/* The actions of 9Eh are commands of their own; of other codes byte 1 does not
+   tell. */
+static const struct row {
+    const char *name;
+    uint8_t code;
+    uint8_t action_bits;
+    uint8_t action;
+} rows[ROWS] = {
+    {"TEST UNIT READY", 0x00, 0, 0},
+    {"INQUIRY", 0x12, 0, 0},
+    {"READ CAPACITY(10)", 0x25, 0, 0},
+    {"READ CAPACITY(16)", 0x9E, 0x1F, 0x10},
+    {"GET LBA STATUS", 0x9E, 0x1F, 0x12},
+    {"READ(10)", 0x28, 0, 0},
+    {"READ(16)", 0x88, 0, 0},
+    {"WRITE(10)", 0x2A, 0, 0},
+    {"WRITE(16)", 0x8A, 0, 0},
+    {"WRITE SAME(16)", 0x93, 0, 0},
+    {"UNMAP", 0x42, 0, 0},
+    {"RESERVE IN", 0x5E, 0, 0},
+    {"RESERVE OUT", 0x5F, 0, 0},
+};
+
+static size_t row_of(const struct run *run)
+{
+    const uint8_t *cdb = run->request.cdb;
+    size_t index = 0;
+
+    if (run->lending.bytes[CDB] == 0)
+        return ROWS;
+    while (index < ROWS && (rows[index].code != cdb[0] ||
+                            rows[index].action !=
+                                (cdb[1] & rows[index].action_bits)))
+        index++;
+    return index;
+}
+
 /* The bytes tell how many blocks moved, or what room was lent for them. */
 static void count_large(struct run *run, uint8_t code)
 {
@@ -437,15 +501,36 @@ static void count_cell(struct run *run, uint8_t code)
         run->figures.cells[cell]++;
 }
 
+/* Of an answer 11 nothing tells: the state may be invalid. */
+static void count_occasions(struct run *run)
+{
+    const struct world *before = &run->before;
+    const size_t *bytes = run->lending.bytes;
+    struct occasion call = {.unit = &before->unit,
+                            .owners = before->owners,
+                            .slots = bytes[OWNERS] / 8,
+                            .cdb = before->cdb,
+                            .data_out = before->data_out,
+                            .data_out_bytes = bytes[DATA_OUT],
+                            .data_in = run->second.data_in,
+                            .data_in_bytes = bytes[DATA_IN],
+                            .answer = run->second.answer,
+                            .returned = run->second.returned};
+
+    if (run->second.answer != RIDGE_UNUSABLE && bytes[CDB] == 16)
+        occasions_count(&call, run->figures.occasions);
+}
+
 static void count_call(struct run *run)
 {
     struct figures *figures = &run->figures;
     uint8_t code = run->lending.bytes[CDB] == 0 ? 0xFF : run->request.cdb[0];
+    size_t row = row_of(run);
     bool good = run->second.answer == RIDGE_GOOD;
 
     figures->answers[run->second.answer & 15]++;
-    figures->by_code[code]++;
-    figures->good_by_code[code] += good ? 1 : 0;
+    figures->by_row[row]++;
+    figures->good_by_row[row] += good ? 1 : 0;
     if (code == 0x5F && good)
         figures->good_actions[run->request.cdb[1] & 0x1F]++;
     if (code == 0x5F && (run->request.cdb[1] & 0x1F) == 4)
@@ -453,6 +538,7 @@ static void count_call(struct run *run)
     if (good)
         count_large(run, code);
     count_cell(run, code);
+    count_occasions(run);
 }
 
 /* Types 7 and 8 stand seldom, and much of what is rare wants them. */
@@ -535,20 +621,6 @@ static bool fresh_store(struct run *run)
 
 /* ---- Figures at the end ---- */
 
-struct row {
-    const char *name;
-    uint8_t code;
-};
-
-static const struct row rows[] = {
-    {"TEST UNIT READY", 0x00},    {"INQUIRY", 0x12},
-    {"READ CAPACITY(10)", 0x25},  {"READ CAPACITY(16)", 0x9E},
-    {"READ(10)", 0x28},           {"READ(16)", 0x88},
-    {"WRITE(10)", 0x2A},          {"WRITE(16)", 0x8A},
-    {"UNMAP", 0x42},              {"RESERVE IN", 0x5E},
-    {"RESERVE OUT", 0x5F},
-};
-
 static bool often_enough(const char *name, uint64_t count, uint64_t floor)
 {
     if (count >= floor)
@@ -577,20 +649,16 @@ static bool print_answers(const struct figures *figures, uint64_t floor)
 static bool print_commands(const struct figures *figures, uint64_t floor)
 {
     static const uint8_t actions[] = {0, 1, 2, 3, 4, 6};
-    uint64_t listed = 0;
     bool enough = true;
 
-    for (size_t index = 0; index < sizeof rows / sizeof *rows; index++) {
-        uint8_t code = rows[index].code;
-
-        printf("%s: %" PRIu64 " calls, %" PRIu64 " good\n", rows[index].name,
-               figures->by_code[code], figures->good_by_code[code]);
-        listed += figures->by_code[code];
-        enough &= often_enough(rows[index].name, figures->good_by_code[code],
+    for (size_t row = 0; row < ROWS; row++) {
+        printf("%s: %" PRIu64 " calls, %" PRIu64 " good\n", rows[row].name,
+               figures->by_row[row], figures->good_by_row[row]);
+        enough &= often_enough(rows[row].name, figures->good_by_row[row],
                                floor);
     }
-    printf("other codes or none: %" PRIu64 " calls\n",
-           figures->calls - listed);
+    printf("other codes or actions, or none: %" PRIu64 " calls\n",
+           figures->by_row[ROWS]);
     printf("RESERVE OUT good by action:");
     for (size_t index = 0; index < sizeof actions; index++)
         printf(" %u: %" PRIu64, actions[index],
@@ -660,6 +728,19 @@ static bool print_cells(const struct figures *figures, uint64_t floor)
     return often_enough(name, figures->cells[least], floor);
 }
 
+static bool print_occasions(const struct figures *figures, uint64_t floor)
+{
+    bool enough = true;
+
+    for (size_t occasion = 0; occasion < OCCASIONS; occasion++) {
+        uint64_t met = figures->occasions[occasion];
+
+        printf("%s: %" PRIu64 "\n", occasion_name(occasion), met);
+        enough &= often_enough(occasion_name(occasion), met, floor);
+    }
+    return enough;
+}
+
 static bool print_damages(const struct figures *figures, uint64_t floor)
 {
     bool enough = true;
@@ -700,6 +781,7 @@ static bool print_figures(const struct figures *figures)
     enough &= print_large(figures, floor);
     enough &= print_zero_keys(figures, floor / 20);
     enough &= print_cells(figures, floor / 5);
+    enough &= print_occasions(figures, floor / 20);
     enough &= print_damages(figures, floor / 2);
     return enough;
 }

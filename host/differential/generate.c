@@ -77,6 +77,8 @@ static uint64_t small_capacity(struct random *random, size_t slots)
 {
     if (slots >= LARGE_SLOTS && random_percent(random, 90))
         return slots + random_below(random, 60);
+    if (slots >= RUNS_SLOTS && random_percent(random, 60))
+        return RUNS_TOLD + random_below(random, RUNS_TOLD);
     return 1 + random_below(random, 40);
 }
 
@@ -158,12 +160,49 @@ static void fill_in_order(struct random *random, struct store *store)
     }
 }
 
+static void shuffle_owners(struct random *random, struct store *store)
+{
+    for (size_t left = store->slots; left > 1; left--) {
+        size_t other = (size_t)random_below(random, left);
+        uint64_t owner = store->owners[left - 1];
+
+        store->owners[left - 1] = store->owners[other];
+        store->owners[other] = owner;
+    }
+}
+
+/*
+ * Short runs and short gaps in turn, often about as many as one GET LBA STATUS
+ * may tell of, in slots of no order. They go up from the first blocks, or down
+ * from the last; in a third of the stores no gap comes before them.
+ */
+static void alternate_runs(struct random *random, struct store *store)
+{
+    uint64_t capacity = store->unit.capacity;
+    uint64_t most = RANDOM_CHOICE(random, RIDGE_SLOTS, RIDGE_SLOTS, 15, 16, 17,
+                                  18, 20);
+    unsigned longer = (unsigned)RANDOM_CHOICE(random, 0, 5, 30);
+    bool down = random_percent(random, 50);
+    uint64_t at = random_below(random, 3);
+
+    for (size_t slot = 0; slot < store->slots && slot < most && at < capacity;
+         slot++) {
+        store->owners[slot] = down ? capacity - at : at + 1;
+        at++;
+        if (!random_percent(random, longer))
+            at += random_percent(random, longer) ? 2 : 1;
+    }
+    shuffle_owners(random, store);
+}
+
 void generate_map(struct random *random, struct store *store)
 {
     memset(store->owners, 0, sizeof store->owners);
     random_fill(random, store->medium, store->slots * RIDGE_BLOCK_BYTES);
-    if (store->slots >= LARGE_SLOTS && random_percent(random, 75))
+    if (store->slots >= LARGE_SLOTS && random_percent(random, 70))
         fill_in_order(random, store);
+    else if (store->slots >= RUNS_SLOTS && random_percent(random, 60))
+        alternate_runs(random, store);
     else
         strew_blocks(random, store);
 }
@@ -421,6 +460,19 @@ static void make_read_capacity_10(struct random *random,
     request->data_in_bytes = generate_size(random, 8);
 }
 
+/* A service action of 9Eh, seldom one that is not listed; the upper bits of its
+   byte stay as they are. */
+static void put_action(struct random *random, struct request *request,
+                       uint8_t action)
+{
+    uint64_t any = random_below(random, 0x20);
+
+    if (random_percent(random, 6))
+        action = (uint8_t)RANDOM_CHOICE(random, 0x00, 0x02, 0x0F, 0x11, 0x13,
+                                        0x1F, any);
+    request->cdb[1] = (uint8_t)((request->cdb[1] & 0xE0) | action);
+}
+
 static void make_read_capacity_16(struct random *random,
                                   const struct store *store,
                                   struct request *request)
@@ -430,8 +482,7 @@ static void make_read_capacity_16(struct random *random,
 
     (void)store;
     start_cdb(random, request, 0x9E, 16);
-    if (!random_percent(random, 6))
-        request->cdb[1] = (uint8_t)((request->cdb[1] & 0xE0) | 0x10);
+    put_action(random, request, 0x10);
     put(request->cdb + 10, 4, allocation);
     request->data_in_bytes =
         generate_size(random, allocation < 32 ? allocation : 32);
@@ -536,6 +587,244 @@ static void make_unmap(struct random *random, const struct store *store,
     put(request->cdb + 7, 2, length);
     request->data_out_bytes = generate_size(random, length);
 }
+
+/* ---- WRITE SAME ---- */
+
+/* As many unmapped blocks as there are free slots, or one more. */
+static void tight_range(struct random *random, const struct store *store,
+                        uint64_t *address, uint64_t *count)
+{
+    uint64_t room = random_below(random, 2);
+
+    for (size_t slot = 0; slot < store->slots; slot++)
+        room += store->owners[slot] == 0 ? 1 : 0;
+    *address = address_within(random, store->unit.capacity);
+    for (*count = 0; *count < RIDGE_TRANSFER_BLOCKS; (*count)++) {
+        bool mapped = is_owner(store, *address + *count + 1);
+
+        if (*address + *count == store->unit.capacity || (!mapped && room == 0))
+            break;
+        room -= mapped ? 0 : 1;
+    }
+    if (*count == 0)
+        *count = 1;
+}
+
+/* A count of 0 is refused whatever else there is, so it is made seldom. */
+static void same_range(struct random *random, const struct store *store,
+                       uint64_t *address, uint64_t *count)
+{
+    uint64_t kind = random_below(random, 100);
+
+    if (store->slots >= LARGE_SLOTS && kind < 60) {
+        large_range(random, store, address, count);
+    } else if (kind < 25) {
+        tight_range(random, store, address, count);
+    } else if (kind < 50) {
+        *address = unmap_address(random, store);
+        *count = generate_count(random, store, *address);
+    } else {
+        generate_range(random, store, address, count);
+    }
+    if (*count == 0 && random_percent(random, 80))
+        *count = 1;
+    if (random_percent(random, 4))
+        *count = RANDOM_CHOICE(random, RIDGE_TRANSFER_BLOCKS,
+                               RIDGE_TRANSFER_BLOCKS + 1);
+}
+
+/* The block and some bytes behind it: zeros, zeros but for one bit of the
+   first, the last or any byte, zeros that end with the block, or any bytes. */
+static void put_same_block(struct random *random, uint8_t *bytes)
+{
+    const size_t block = RIDGE_BLOCK_BYTES;
+    uint8_t bit = (uint8_t)(1 << random_below(random, 8));
+    size_t any = (size_t)random_below(random, block);
+
+    random_fill(random, bytes, 2 * block);
+    if (random_percent(random, 25))
+        return;
+    memset(bytes, 0, random_percent(random, 30) ? 2 * block : block);
+    if (random_percent(random, 55))
+        return;
+    bytes[RANDOM_CHOICE(random, 0, block - 1, block - 1, any)] = bit;
+}
+
+/* Bits 7 to 5 are WRPROTECT, 4 ANCHOR, 3 UNMAP, 0 NDOB; 2 and 1 stay as they
+   are, and are to be ignored. */
+static void put_same_flags(struct random *random, struct request *request)
+{
+    uint8_t flags = request->cdb[1] & 0x06;
+
+    flags |= random_percent(random, 55) ? 0x08 : 0x00;
+    flags |= random_percent(random, 30) ? 0x01 : 0x00;
+    if (random_percent(random, 4))
+        flags |= 0x10;
+    if (random_percent(random, 4))
+        flags |= (uint8_t)(0x20 << random_below(random, 3));
+    request->cdb[1] = flags;
+}
+
+/* With NDOB no data-out is wanted: mostly there is none, or too little. */
+static void make_write_same(struct random *random, const struct store *store,
+                            struct request *request)
+{
+    uint64_t address;
+    uint64_t count;
+    uint64_t whole;
+
+    same_range(random, store, &address, &count);
+    whole = (count > 129 ? 1 : count) * RIDGE_BLOCK_BYTES;
+    start_cdb(random, request, 0x93, 16);
+    put_same_flags(random, request);
+    put(request->cdb + 2, 8, address);
+    put(request->cdb + 10, 4, count);
+    put_same_block(random, request->data_out);
+    request->data_out_bytes = generate_size(random, RIDGE_BLOCK_BYTES);
+    if ((request->cdb[1] & 0x01) != 0 && random_percent(random, 60))
+        request->data_out_bytes = (size_t)RANDOM_CHOICE(random, 0, 0, 1, 511);
+    else if (random_percent(random, 12))
+        request->data_out_bytes = (size_t)RANDOM_CHOICE(
+            random, 0, 511, 513, 1023, 1024, whole, whole + 1);
+}
+
+/* ---- GET LBA STATUS ---- */
+
+/* Where runs begin: at 0, and at most on both sides of each mapped block. */
+enum { BORDERS = 1 + 2 * RIDGE_SLOTS };
+
+static size_t sort_owners(const struct store *store,
+                          uint64_t sorted[RIDGE_SLOTS])
+{
+    size_t count = 0;
+
+    for (size_t slot = 0; slot < store->slots; slot++) {
+        uint64_t owner = store->owners[slot];
+        size_t at = count;
+
+        if (owner == 0)
+            continue;
+        for (; at > 0 && sorted[at - 1] > owner; at--)
+            sorted[at] = sorted[at - 1];
+        sorted[at] = owner;
+        count++;
+    }
+    return count;
+}
+
+/* Where a run of mapped or of unmapped blocks begins, by rising address. */
+static size_t find_borders(const struct store *store, uint64_t borders[BORDERS])
+{
+    uint64_t sorted[RIDGE_SLOTS];
+    size_t mapped = sort_owners(store, sorted);
+    size_t count = 1;
+
+    borders[0] = 0;
+    for (size_t index = 0; index < mapped; index++) {
+        uint64_t address = sorted[index] - 1;
+
+        if (borders[count - 1] != address)
+            borders[count++] = address;
+        while (index + 1 < mapped && sorted[index + 1] == sorted[index] + 1)
+            index++;
+        if (sorted[index] < store->unit.capacity)
+            borders[count++] = sorted[index];
+    }
+    return count;
+}
+
+/* The bytes that there are to tell from that address on. */
+static uint64_t status_bytes(const struct store *store, uint64_t start)
+{
+    uint64_t borders[BORDERS];
+    size_t count = find_borders(store, borders);
+    uint64_t descriptors = 0;
+
+    for (size_t index = 0; index < count; index++) {
+        uint64_t begin = borders[index] < start ? start : borders[index];
+        uint64_t end = index + 1 < count ? borders[index + 1]
+                                         : store->unit.capacity;
+
+        if (begin < end)
+            descriptors += (end - begin + UINT32_MAX - 1) / UINT32_MAX;
+    }
+    return 8 + 16 * (descriptors < RUNS_TOLD ? descriptors : RUNS_TOLD);
+}
+
+/* So far before the end of a run that the run fills one descriptor or several,
+   or has a block less, or one more. */
+static uint64_t start_before(struct random *random, uint64_t end)
+{
+    uint64_t full = RANDOM_CHOICE(random, 1, 1, 1, 2, 3, RUNS_TOLD - 1,
+                                  RUNS_TOLD, RUNS_TOLD + 1);
+    uint64_t blocks = full * UINT32_MAX + random_below(random, 3) - 1;
+
+    return blocks <= end ? end - blocks : random_below(random, 3);
+}
+
+/* So that about as many runs follow as may be told of. */
+static uint64_t start_of_many(struct random *random, const uint64_t *borders,
+                              size_t count)
+{
+    uint64_t runs = RUNS_TOLD - 1 + random_below(random, 3);
+    uint64_t start = runs <= count ? borders[count - runs] : 0;
+
+    return random_percent(random, 30) && start > 0 ? start - 1 : start;
+}
+
+static uint64_t status_start(struct random *random, const struct store *store)
+{
+    uint64_t capacity = store->unit.capacity;
+    uint64_t borders[BORDERS];
+    size_t count = find_borders(store, borders);
+    size_t any = (size_t)random_below(random, count);
+    uint64_t end = any + 1 < count ? borders[any + 1] : capacity;
+
+    if (count >= RUNS_TOLD - 1 && random_percent(random, 50))
+        return start_of_many(random, borders, count);
+    switch (random_below(random, 10)) {
+    case 0:
+        return RANDOM_CHOICE(random, capacity - 1, capacity - 1, capacity,
+                             capacity + 1, UINT64_MAX,
+                             capacity + (UINT64_C(1) << 32));
+    case 1:
+    case 2:
+    case 3:
+        return capacity >= UINT32_MAX ? start_before(random, end) : 0;
+    case 4:
+        return borders[any];
+    case 5:
+        return borders[any] + random_below(random, end - borders[any]);
+    case 6:
+        return end - 1;
+    default:
+        return generate_address(random, store);
+    }
+}
+
+static void make_get_lba_status(struct random *random,
+                                const struct store *store,
+                                struct request *request)
+{
+    uint64_t start = status_start(random, store);
+    uint64_t available = status_bytes(store, start);
+    uint64_t allocation = RANDOM_CHOICE(
+        random, 0, 1, 4, 7, 8, 9, 23, 24, 25, 519, 520, 521, 65536, 0x01000008,
+        UINT32_MAX, available - 1, available, available + 1);
+
+    if (random_percent(random, 50))
+        allocation = RANDOM_CHOICE(random, 520, 4096, UINT32_MAX);
+    start_cdb(random, request, 0x9E, 16);
+    put_action(random, request, 0x12);
+    if (random_percent(random, 20))
+        request->cdb[14] = (uint8_t)random_below(random, 4);
+    put(request->cdb + 2, 8, start);
+    put(request->cdb + 10, 4, allocation);
+    request->data_in_bytes = generate_size(
+        random, allocation < available ? allocation : available);
+}
+
+/* ---- PERSISTENT RESERVE IN and OUT ---- */
 
 static void make_reserve_in(struct random *random, const struct store *store,
                             struct request *request)
@@ -645,11 +934,12 @@ static const struct {
     unsigned share;
     make_function *make;
 } makers[] = {
-    {3, make_test_unit_ready},  {5, make_inquiry},
+    {3, make_test_unit_ready},  {4, make_inquiry},
     {3, make_read_capacity_10}, {4, make_read_capacity_16},
-    {18, make_read},            {21, make_write},
-    {13, make_unmap},           {8, make_reserve_in},
-    {23, make_reserve_out},     {2, make_other_code},
+    {14, make_read},            {16, make_write},
+    {10, make_unmap},           {9, make_write_same},
+    {9, make_get_lba_status},   {7, make_reserve_in},
+    {19, make_reserve_out},     {2, make_other_code},
 };
 
 static void make_any(struct random *random, const struct store *store,

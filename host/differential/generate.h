@@ -23,7 +23,11 @@ enum {
     SENSE_ROOM = 256,
     /* A store of so many slots is a large one: transfers of 100 to 128 blocks
        and damage at its last slots are what it is for. */
-    LARGE_SLOTS = 100
+    LARGE_SLOTS = 100,
+    /* With so many slots there may be more runs of mapped and of unmapped
+       blocks than one GET LBA STATUS tells of. */
+    RUNS_SLOTS = 16,
+    RUNS_TOLD = 32
 };
 
 struct random {
@@ -75,7 +79,8 @@ size_t generate_slots(struct random *random);
 uint64_t generate_capacity(struct random *random, size_t slots);
 
 /* Gives the store a random valid map and random medium bytes: blocks strewn
-   over the slots, or most slots of a large store filled in order. */
+   over the slots, short runs and gaps in turn, or most slots of a large store
+   filled in order. */
 void generate_map(struct random *random, struct store *store);
 
 /* Makes random registrations, and no reservation. */

@@ -25,7 +25,8 @@
  *    0   00h GOOD   none        done
  *    1   02h        05/20/00    operation code not listed
  *    2   02h        05/24/00    a field of the CDB
- *    3   02h        05/21/00    block address + count > capacity
+ *    3   02h        05/21/00    block address + count > capacity; GET LBA
+ *                               STATUS from an address at or past it
  *    4   02h        05/1A/00    parameter list length
  *    5   02h        05/26/00    a field of the parameter list
  *    6   02h        05/55/04    new registration, all 8 places used
@@ -33,8 +34,9 @@
  *    8   02h        07/27/07    more unmapped blocks in a write than free slots
  *   10   18h        none        reservation conflict
  *   11   none       none        unusable call or invalid state
- *   12   none       none        data-out shorter than the blocks or list
- *                               length, data-in than the bytes returned
+ *   12   none       none        data-out shorter than the blocks (WRITE SAME:
+ *                               the one block) or list length, data-in than
+ *                               the bytes returned
  *
  * Where the status is 02h the first 18 bytes of sense become fixed format
  * sense data: byte 0 70h, byte 2 the key, byte 7 0Ah, bytes 12 and 13 the
@@ -76,8 +78,9 @@ extern "C" {
 enum ridge_bound {
     RIDGE_BLOCK_BYTES = 512,    /* bytes of one block, and of one slot */
     RIDGE_SLOTS = 128,          /* most slots a pool may have; least is 1 */
-    RIDGE_TRANSFER_BLOCKS = 128,/* most blocks of one READ or WRITE */
+    RIDGE_TRANSFER_BLOCKS = 128,/* most blocks of READ, WRITE, WRITE SAME */
     RIDGE_DESCRIPTORS = 16,     /* most UNMAP descriptors considered */
+    RIDGE_STATUS_DESCRIPTORS = 32,/* most descriptors GET LBA STATUS tells */
     RIDGE_PLACES = 8,           /* registration places */
     RIDGE_NEXUS_LAST = 15,      /* nexus numbers are 0 to 15 */
     RIDGE_SENSE_BYTES = 18      /* least size of a sense buffer */

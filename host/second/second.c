@@ -1,8 +1,8 @@
 /*
  * second.c - a second implementation of the unit, written from the papers
- * alone and independent of the proved library. It follows 01, with request Q-3
- * of 02. The tests run both on the same calls; the speed figures take it as
- * their baseline.
+ * alone and independent of the proved library. It follows 01, with requests
+ * Q-1 and Q-3 of 02. The tests run both on the same calls; the speed figures
+ * take it as their baseline.
  *
  * Plain C11: no heap, no globals but constant tables. The order of the tests in
  * each function is the papers' order, since the first that fails is the answer.
@@ -312,12 +312,21 @@ static size_t free_slots(const struct call *call)
     return count;
 }
 
+/* What goes into the blocks of a range: the bytes of the first, and how far
+   behind them those of the next lie, which is 0 where all blocks get the
+   same. */
+struct source {
+    const uint8_t *bytes;
+    size_t step;
+};
+
 /*
  * Moves the blocks once there is room for all of them. The search for a free
  * slot goes on where the last one ended: slots below it are taken by then.
  */
 static void place_blocks(struct call *call, struct range range,
-                         const uint8_t slot_of[RIDGE_TRANSFER_BLOCKS])
+                         const uint8_t slot_of[RIDGE_TRANSFER_BLOCKS],
+                         struct source source)
 {
     size_t lowest_free = 0;
 
@@ -330,16 +339,28 @@ static void place_blocks(struct call *call, struct range range,
             slot = lowest_free;
             call->owners[slot] = range.address + index + 1;
         }
-        memcpy(slot_bytes(call, slot),
-               call->data_out + index * RIDGE_BLOCK_BYTES, RIDGE_BLOCK_BYTES);
+        memcpy(slot_bytes(call, slot), source.bytes + index * source.step,
+               RIDGE_BLOCK_BYTES);
     }
+}
+
+/* The end of a WRITE and of a WRITE SAME that writes. */
+static uint64_t write_range(struct call *call, struct range range,
+                            struct source source)
+{
+    uint8_t slot_of[RIDGE_TRANSFER_BLOCKS];
+    size_t mapped = index_range(call, range, slot_of);
+
+    if (range.count - mapped > free_slots(call))
+        return RIDGE_POOL_FULL;
+    place_blocks(call, range, slot_of, source);
+    return RIDGE_GOOD;
 }
 
 static uint64_t write_blocks(struct call *call, bool sixteen)
 {
     struct range range;
-    uint8_t slot_of[RIDGE_TRANSFER_BLOCKS];
-    size_t mapped;
+    struct source source = {call->data_out, RIDGE_BLOCK_BYTES};
 
     if (!transfer_range(call->cdb, sixteen, &range))
         return RIDGE_CDB_FIELD;
@@ -349,11 +370,7 @@ static uint64_t write_blocks(struct call *call, bool sixteen)
         return RIDGE_ADDRESS_RANGE;
     if (call->data_out_bytes < range.count * RIDGE_BLOCK_BYTES)
         return RIDGE_BUFFER_SHORT;
-    mapped = index_range(call, range, slot_of);
-    if (range.count - mapped > free_slots(call))
-        return RIDGE_POOL_FULL;
-    place_blocks(call, range, slot_of);
-    return RIDGE_GOOD;
+    return write_range(call, range, source);
 }
 
 static uint64_t read_10(struct call *call)
@@ -421,6 +438,51 @@ static uint64_t unmap(struct call *call)
     return RIDGE_GOOD;
 }
 
+/* ---- WRITE SAME ---- */
+
+static bool is_zero(const uint8_t block[RIDGE_BLOCK_BYTES])
+{
+    for (size_t at = 0; at < RIDGE_BLOCK_BYTES; at++) {
+        if (block[at] != 0)
+            return false;
+    }
+    return true;
+}
+
+/* False for a CDB field that Q-1 refuses: unlike a WRITE's, the count may not
+   be 0. */
+static bool same_fields(uint8_t flags, struct range range)
+{
+    enum { WRPROTECT = 0xE0, ANCHOR = 0x10 };
+
+    return (flags & WRPROTECT) == 0 && (flags & ANCHOR) == 0 &&
+           range.count != 0 && range.count <= RIDGE_TRANSFER_BLOCKS;
+}
+
+/* With NDOB the block is zeros and data-out is not looked at. */
+static uint64_t write_same(struct call *call)
+{
+    enum { UNMAP = 0x08, NDOB = 0x01 };
+    static const uint8_t zeros[RIDGE_BLOCK_BYTES];
+    struct range range = {load(call->cdb + 2, 8), load(call->cdb + 10, 4)};
+    bool without_data = (call->cdb[1] & NDOB) != 0;
+    struct source same = {without_data ? zeros : call->data_out, 0};
+
+    if (!same_fields(call->cdb[1], range))
+        return RIDGE_CDB_FIELD;
+    if (write_conflicts(call))
+        return RIDGE_CONFLICT;
+    if (!range_fits(call, range))
+        return RIDGE_ADDRESS_RANGE;
+    if (!without_data && call->data_out_bytes < RIDGE_BLOCK_BYTES)
+        return RIDGE_BUFFER_SHORT;
+    if ((call->cdb[1] & UNMAP) != 0 && is_zero(same.bytes)) {
+        unmap_range(call, range);
+        return RIDGE_GOOD;
+    }
+    return write_range(call, range, same);
+}
+
 /* ---- Parameter data ---- */
 
 /* Returns the first min(allocation, available) bytes. */
@@ -469,12 +531,101 @@ static uint64_t read_capacity_16(struct call *call)
 {
     uint8_t data[32] = {0};
 
-    if ((call->cdb[1] & 0x1F) != 0x10)
-        return RIDGE_CDB_FIELD;
     store(data, 8, call->unit->capacity - 1);
     store(data + 8, 4, RIDGE_BLOCK_BYTES);
     data[14] = 0xC0;
     return give(call, data, sizeof data, load(call->cdb + 10, 4));
+}
+
+/* ---- GET LBA STATUS ---- */
+
+/* The first block from that address on that is mapped; the capacity if there
+   is none. */
+static uint64_t next_mapped(const struct call *call, uint64_t address)
+{
+    uint64_t next = call->unit->capacity;
+
+    for (size_t slot = 0; slot < call->slots; slot++) {
+        uint64_t owner = call->owners[slot];
+
+        if (owner != 0 && owner - 1 >= address)
+            next = smaller(next, owner - 1);
+    }
+    return next;
+}
+
+/* Likewise for one that is not mapped. There are no more mapped blocks than
+   slots, so that they can be taken one by one; unmapped ones could not. */
+static uint64_t next_unmapped(const struct call *call, uint64_t address)
+{
+    while (address < call->unit->capacity &&
+           next_mapped(call, address) == address)
+        address++;
+    return address;
+}
+
+enum {
+    STATUS_HEADER = 8,
+    STATUS_DESCRIPTOR = 16,
+    STATUS_RUNS = 32,
+    STATUS_BYTES = STATUS_HEADER + STATUS_DESCRIPTOR * STATUS_RUNS
+};
+
+/* Writes the descriptor of the run that begins there; returns its blocks. What
+   a run has beyond the field's width is the next descriptor's. */
+static uint64_t put_run(const struct call *call, uint64_t address,
+                        uint8_t bytes[STATUS_DESCRIPTOR])
+{
+    bool mapped = next_mapped(call, address) == address;
+    uint64_t end =
+        mapped ? next_unmapped(call, address) : next_mapped(call, address);
+    uint64_t count = smaller(end - address, UINT32_MAX);
+
+    memset(bytes, 0, STATUS_DESCRIPTOR);
+    store(bytes, 8, address);
+    store(bytes + 8, 4, count);
+    bytes[12] = mapped ? 0 : 1;
+    return count;
+}
+
+/* The length field counts what follows it, as SBC has it. */
+static size_t status_list(const struct call *call, uint64_t address,
+                          uint8_t data[STATUS_BYTES])
+{
+    size_t length = STATUS_HEADER;
+
+    memset(data, 0, STATUS_HEADER);
+    while (address < call->unit->capacity && length < STATUS_BYTES) {
+        address += put_run(call, address, data + length);
+        length += STATUS_DESCRIPTOR;
+    }
+    store(data, 4, length - 4);
+    return length;
+}
+
+static uint64_t get_lba_status(struct call *call)
+{
+    uint64_t address = load(call->cdb + 2, 8);
+    uint8_t data[STATUS_BYTES];
+
+    if (read_conflicts(call))
+        return RIDGE_CONFLICT;
+    if (address >= call->unit->capacity)
+        return RIDGE_ADDRESS_RANGE;
+    return give(call, data, status_list(call, address, data),
+                load(call->cdb + 10, 4));
+}
+
+static uint64_t service_action_in(struct call *call)
+{
+    switch (call->cdb[1] & 0x1F) {
+    case 0x10:
+        return read_capacity_16(call);
+    case 0x12:
+        return get_lba_status(call);
+    default:
+        return RIDGE_CDB_FIELD;
+    }
 }
 
 /* ---- PERSISTENT RESERVE IN ---- */
@@ -808,7 +959,8 @@ static const struct command commands[] = {
     {0x5F, 10, reserve_out},
     {0x88, 16, read_16},
     {0x8A, 16, write_16},
-    {0x9E, 16, read_capacity_16},
+    {0x93, 16, write_same},
+    {0x9E, 16, service_action_in},
 };
 
 static const struct command *find_command(uint8_t code)

@@ -4,6 +4,18 @@
 
 #include "ridge.h"
 
+/* 9Eh is several commands. */
+static const char *name_of_action(const uint8_t *cdb, size_t cdb_bytes)
+{
+    if (cdb_bytes < 2)
+        return "another command";
+    switch (cdb[1] & 0x1F) {
+    case 0x10: return "READ CAPACITY(16)";
+    case 0x12: return "GET LBA STATUS";
+    default: return "another command";
+    }
+}
+
 const char *name_of_command(const uint8_t *cdb, size_t cdb_bytes)
 {
     if (cdb_bytes == 0)
@@ -19,7 +31,8 @@ const char *name_of_command(const uint8_t *cdb, size_t cdb_bytes)
     case 0x5F: return "PERSISTENT RESERVE OUT";
     case 0x88: return "READ(16)";
     case 0x8A: return "WRITE(16)";
-    case 0x9E: return "READ CAPACITY(16)";
+    case 0x93: return "WRITE SAME(16)";
+    case 0x9E: return name_of_action(cdb, cdb_bytes);
     default: return "another command";
     }
 }

@@ -260,6 +260,32 @@ static struct store_call random_unmap(void)
     return call;
 }
 
+/* Writes a block all over a range, a random one or zeros; or unmaps it. */
+static struct store_call random_same(void)
+{
+    enum { UNMAP = 0x08, NDOB = 0x01 };
+    static const uint8_t flags[] = {0, NDOB, UNMAP, UNMAP | NDOB};
+    struct store_call call = new_call(16, RIDGE_BLOCK_BYTES, 0);
+    cdb[0] = 0x93;
+    cdb[1] = flags[chance(sizeof flags)];
+    cdb[9] = (uint8_t)chance(CAPACITY - BLOCKS_MOST);
+    cdb[13] = (uint8_t)(1 + chance(BLOCKS_MOST));
+    if (chance(2) == 0)
+        memset(data_out, (int)(1 + chance(255)), RIDGE_BLOCK_BYTES);
+    if ((cdb[1] & NDOB) != 0)
+        call.data_out_bytes = 0;
+    return call;
+}
+
+static struct store_call read_map(void)
+{
+    struct store_call call = new_call(16, 0, DATA_BYTES);
+    cdb[0] = 0x9E;
+    cdb[1] = 0x12;
+    cdb[12] = 0xFF;
+    return call;
+}
+
 static struct store_call read_all(void)
 {
     struct store_call call = new_call(10, 0, DATA_BYTES);
@@ -295,12 +321,16 @@ static struct store_call reservation_in(uint8_t action)
 
 static struct store_call random_call(void)
 {
-    uint64_t kind = chance(20);
-    if (kind < 14)
+    uint64_t kind = chance(24);
+    if (kind < 13)
         return random_write();
     if (kind < 17)
+        return random_same();
+    if (kind < 20)
         return random_unmap();
-    return kind < 18 ? read_all() : random_reservation();
+    if (kind < 22)
+        return kind == 20 ? read_all() : read_map();
+    return random_reservation();
 }
 
 /* ---- rounds ---- */
@@ -341,12 +371,19 @@ static enum outcome load_until_killed(void)
     return outcome;
 }
 
+/* What the whole store can tell: keys, reservation, blocks, map. */
+static struct store_call probe_call(int which)
+{
+    if (which < 2)
+        return reservation_in((uint8_t)which);
+    return which == 2 ? read_all() : read_map();
+}
+
 static enum outcome probe(void)
 {
-    struct store_call probes[3];
-    for (int which = 0; which < 3; which++) {
-        probes[which] = which == 0 ? read_all() : reservation_in((uint8_t)(which - 1));
-        enum outcome outcome = ask_it(&probes[which]);
+    for (int which = 0; which < 4; which++) {
+        struct store_call call = probe_call(which);
+        enum outcome outcome = ask_it(&call);
         if (outcome != ANSWERED)
             return outcome == UNANSWERED ? NOT_SENT : outcome;
     }

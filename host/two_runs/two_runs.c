@@ -54,7 +54,9 @@ struct figures {
     uint64_t shut_out_calls;
     uint64_t other_calls;
     uint64_t other_good_writes;
+    uint64_t other_good_same; /* of these, by WRITE SAME */
     uint64_t shut_out_codes[256];
+    uint64_t shut_out_status; /* GET LBA STATUS, which shares its code */
     uint64_t shut_out_answers[16];
     uint64_t take_overs;   /* PREEMPT with key 0 that was served */
     uint64_t shutting_out; /* of these, such as shut somebody out */
@@ -103,6 +105,11 @@ static void fail(const struct run *run, const char *what)
 static bool is_reserve_out(const struct request *request)
 {
     return request->cdb_bytes > 0 && request->cdb[0] == RESERVE_OUT_CODE;
+}
+
+static bool is_status(const struct request *request)
+{
+    return request->cdb[0] == 0x9E && (request->cdb[1] & 0x1F) == 0x12;
 }
 
 /* READ would conflict for it: under 3 all but the holder, under 6 and 8 all
@@ -267,6 +274,7 @@ static void shut_out_call(struct run *run)
         follow_removed(run);
     run->figures.shut_out_calls++;
     run->figures.shut_out_codes[run->request.cdb[0]]++;
+    run->figures.shut_out_status += is_status(&run->request) ? 1 : 0;
     run->figures.shut_out_answers[run->left.answer & 15]++;
 }
 
@@ -284,8 +292,10 @@ static void other_call(struct run *run, struct side *side)
     random_fill(&run->random, run->data_in, run->request.data_in_bytes);
     execute(run, side);
     run->figures.other_calls++;
-    if (!map_kept(side))
+    if (!map_kept(side)) {
         run->figures.other_good_writes++;
+        run->figures.other_good_same += run->request.cdb[0] == 0x93 ? 1 : 0;
+    }
     if (!unit_kept(side))
         fail(run, "a call that is no reservation-out call changed the record");
 }
@@ -358,8 +368,11 @@ static bool print_figures(const struct figures *figures)
                           figures->removed_calls, steps / 1000);
     enough &= print_count("of these READ", codes[0x28] + codes[0x88],
                           steps / 100);
+    enough &= print_count("of these GET LBA STATUS", figures->shut_out_status,
+                          steps / 100);
     enough &= print_count("of these WRITE", codes[0x2A] + codes[0x8A],
                           steps / 100);
+    enough &= print_count("of these WRITE SAME", codes[0x93], steps / 100);
     enough &= print_count("of these UNMAP", codes[0x42], steps / 100);
     enough &= print_count("of these reservation-out", codes[RESERVE_OUT_CODE],
                           steps / 100);
@@ -367,6 +380,8 @@ static bool print_figures(const struct figures *figures)
                           steps / 10);
     enough &= print_count("of these changed a map or block",
                           figures->other_good_writes, steps / 100);
+    enough &= print_count("of these by WRITE SAME", figures->other_good_same,
+                          steps / 500);
     printf("answers of shut-out calls:");
     for (unsigned answer = 0; answer <= RIDGE_BUFFER_SHORT; answer++)
         printf(" %u: %" PRIu64, answer, figures->shut_out_answers[answer]);

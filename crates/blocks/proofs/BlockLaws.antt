@@ -12,7 +12,7 @@ use Rattle.fields.specs.Bytes.{put}
 use Rattle.answers.specs.declared.Answer.{Answer}
 use Rattle.answers.specs.declared.Answer.the-variants.{Good, Short}
 use Rattle.answers.specs.Answers.{outOfRange, listLength, listField, noRoom}
-use Rattle.answers.specs.Order.{first, refuses}
+use Rattle.answers.specs.Order.{refuses}
 use Rattle.answers.proofs.OrderLaws.{row-pass, row-stop, row-end}
 use Rattle.pool.specs.Pool.{Pool, readBlocks, writeBlocks, pool, roomFor}
 use Rattle.map.specs.Write.{Written, written, tryWrite}

@@ -1,1 +1,4 @@
 pub mod BlockLaws
+pub mod SameLaws
+pub mod StatusLaws
+pub mod MoveLaws

@@ -12,7 +12,7 @@ use pool::Lba;
 use reply::Reply;
 
 // Whether the range reaches past the last block. No sum of an address and a count is taken: it could wrap.
-fn past_end(capacity: u64, lba: Lba, count: u64) -> bool
+pub fn past_end(capacity: u64, lba: Lba, count: u64) -> bool
     ensures { λ r. ⌜ r ≡ ltb capacity (lba .0 + count) ⌝ }
 {
     if capacity < count {

@@ -10,7 +10,7 @@ use Rattle.answers.specs.declared.Answer.the-variants.{Good, Refused, Conflict,
 use Rattle.answers.specs.Answers.{senseAfter}
 use Rattle.answers.specs.Order.{Row, _if_, first, next, firstOf, ifGoodBy, refuses}
 use Rattle.answers.proofs.OrderLaws.{first-append, next-after, next-refuses}
-use Rattle.forms.specs.declared.Move.the-variants.{Read, Write, Unmap}
+use Rattle.forms.specs.declared.Move.the-variants.{Read, Write, WriteSame, Unmap, Status}
 use Rattle.forms.specs.declared.Command.{Command}
 use Rattle.forms.specs.declared.Command.the-variants.{Tells, Moves, Alters}
 use Rattle.forms.specs.declared.Entry.{Entry}
@@ -141,7 +141,9 @@ module _ (s : Store) (n : ℕ) (cdb out in′ sense : List ℕ) where
       unseen (Tells t) = refl
       unseen (Moves Read) = refl
       unseen (Moves Write) = refl
+      unseen (Moves WriteSame) = refl
       unseen (Moves Unmap) = refl
+      unseen (Moves Status) = refl
       unseen (Alters a) = refl
 
       step-asks : sensed (servedBy (q .command) q s (callOf n cdb out in′ sense)) ≡ step s (callOf n cdb out in′ sense)

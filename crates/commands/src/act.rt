@@ -8,10 +8,7 @@ ghost use Rattle.reply.specs.Reply.{Bounded, served};
 ghost use Rattle.alter.specs.Altered.{altered};
 ghost use Rattle.commands.specs.Served.{servedBy, altersTo, bare, replying};
 use answers::Answer;
-use blocks::transfer;
-use blocks::unmap;
 use forms::Command;
-use forms::Move;
 use forms::Request;
 use reply::Outcome;
 use reply::Reply;
@@ -78,25 +75,21 @@ pub fn act(
         (callOf nexus [] (now («data_out» .entry)) (now («data_in» .entry)) []) ⌝ }
 {
     let command = request.command;
-    let capacity = unit.capacity;
-    let lba = request.address;
-    let size = request.size;
     match command {
-        Command::Tells(what) => replied(tell::tell(what, size, unit, data_in), unit),
+        Command::Tells(what) => replied(tell::tell(what, request.size, unit, data_in), unit),
         Command::Alters(action) => alters(action, request, unit, nexus, data_out),
-        Command::Moves(what) => match what {
-            Move::Read => {
-                let reply = transfer::read(capacity, owners, medium, lba, size, data_in);
-                replied(reply, unit)
-            }
-            Move::Write => {
-                let answer = transfer::write(capacity, owners, medium, lba, size, data_out);
-                answered(answer, unit)
-            }
-            Move::Unmap => {
-                let answer = unmap::unmap(capacity, owners, size, data_out);
-                answered(answer, unit)
-            }
-        },
+        Command::Moves(what) => {
+            let capacity = unit.capacity;
+            let reply = blocks::move_blocks(
+                what,
+                request,
+                capacity,
+                owners,
+                medium,
+                data_out,
+                data_in,
+            );
+            replied(reply, unit)
+        }
     }
 }

@@ -22,6 +22,10 @@ pub fn asked(unit: Unit, nexus: u64, cdb: &[u8]) -> Decoded
     match decoded {
         Decoded::Wrong(answer) => Decoded::Wrong(answer),
         Decoded::Asks(request) => {
+            // Without a reservation nobody is stopped, and the rights need not be copied for the question.
+            if unit.rights.kind == 0 {
+                return Decoded::Asks(request);
+            }
             let command = request.command;
             if conflict::conflicts(command, unit.rights, nexus) {
                 return Decoded::Wrong(Answer::Conflict);

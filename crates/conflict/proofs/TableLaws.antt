@@ -11,7 +11,7 @@ use Rattle.rights.specs.declared.Rights.{Rights}
 use Rattle.rights.specs.declared.Action.the-variants.{Register}
 use Rattle.rights.specs.Rights.{isOneOf, oneHolds, allHold, holds}
 use Rattle.forms.specs.declared.Tell.the-variants.{Ready, Inquiry, Capacity10, Capacity16, Keys, Reservation}
-use Rattle.forms.specs.declared.Move.the-variants.{Read, Write, Unmap}
+use Rattle.forms.specs.declared.Move.the-variants.{Read, Write, WriteSame, Unmap, Status}
 use Rattle.forms.specs.declared.Command.{Command}
 use Rattle.forms.specs.declared.Command.the-variants.{Tells, Moves, Alters}
 use Rattle.store.specs.declared.Column.{Column}
@@ -23,7 +23,8 @@ use Rattle.conflict.specs.Rows.{numberOf, somewhere}
 -- the rows, in the order in which the code has them
 unfoldable pub table : List (List Bool)
 table =
-    row (Tells Inquiry)
+    row (Moves Status)
+    ∷ row (Tells Inquiry)
     ∷ row (Tells Keys)
     ∷ row (Tells Reservation)
     ∷ row (Alters Register)
@@ -33,15 +34,16 @@ table =
     ∷ row (Tells Ready)
     ∷ row (Moves Unmap)
     ∷ row (Moves Write)
+    ∷ row (Moves WriteSame)
     ∷ []
 
-pub number-listed : (k : Command) → numberOf k < 10
+pub number-listed : (k : Command) → numberOf k < 12
 unfolding numberOf
-number-listed k = ltb→lt (numberOf k) 10 (by-row (λ x. T (ltb (numberOf x) 10)) tt tt tt (λ _. tt) tt tt tt tt tt tt k)
+number-listed k = ltb→lt (numberOf k) 12 (by-row (λ x. T (ltb (numberOf x) 12)) tt tt tt tt (λ _. tt) tt tt tt tt tt tt tt k)
 
 pub row-there : (k : Command) → getD table (numberOf k) [] ≡ row k
 unfolding table numberOf row
-row-there = by-row (λ k. getD table (numberOf k) [] ≡ row k) refl refl refl (λ _. refl) refl refl refl refl refl refl
+row-there = by-row (λ k. getD table (numberOf k) [] ≡ row k) refl refl refl refl (λ _. refl) refl refl refl refl refl refl refl
 
 -- ---- nobody is stopped where there is no reservation, and by a row without a conflict
 

@@ -5,22 +5,24 @@ use mathlib.Core.List.{List}
 use Prim.Native.Nat.{ℕ}
 use lib.ListN.{getD}
 use Rattle.forms.specs.declared.Tell.the-variants.{Ready, Inquiry, Capacity10, Capacity16, Keys, Reservation}
-use Rattle.forms.specs.declared.Move.the-variants.{Read, Write, Unmap}
+use Rattle.forms.specs.declared.Move.the-variants.{Read, Write, WriteSame, Unmap, Status}
 use Rattle.forms.specs.declared.Command.{Command}
 use Rattle.forms.specs.declared.Command.the-variants.{Tells, Moves, Alters}
 use Rattle.store.specs.Conflict.{Allowed}
 
 unfoldable pub numberOf : Command → ℕ
-numberOf (Tells Inquiry) = 0
-numberOf (Tells Keys) = 1
-numberOf (Tells Reservation) = 2
-numberOf (Alters action) = 3
-numberOf (Moves Read) = 4
-numberOf (Tells Capacity10) = 5
-numberOf (Tells Capacity16) = 6
-numberOf (Tells Ready) = 7
-numberOf (Moves Unmap) = 8
-numberOf (Moves Write) = 9
+numberOf (Moves Status) = 0
+numberOf (Tells Inquiry) = 1
+numberOf (Tells Keys) = 2
+numberOf (Tells Reservation) = 3
+numberOf (Alters action) = 4
+numberOf (Moves Read) = 5
+numberOf (Tells Capacity10) = 6
+numberOf (Tells Capacity16) = 7
+numberOf (Tells Ready) = 8
+numberOf (Moves Unmap) = 9
+numberOf (Moves Write) = 10
+numberOf (Moves WriteSame) = 11
 
 -- is there a conflict in a row
 unfoldable pub somewhere : List Bool → Bool

@@ -19,9 +19,10 @@ const ALLOWED: bool = false;
 const CONFLICT: bool = true;
 
 // RR are the types for registrants only and for all registrants.
-const TABLE: [[bool; 5]; 10] = [
+const TABLE: [[bool; 5]; 12] = [
     // from any nexus: Write Exclusive, Exclusive Access; from a registered nexus: RR; from a nexus not registered: Write Exclusive - RR,
     // Exclusive Access - RR
+    [ALLOWED, CONFLICT, ALLOWED, ALLOWED, CONFLICT], // GET LBA STATUS
     [ALLOWED, ALLOWED, ALLOWED, ALLOWED, ALLOWED], // INQUIRY
     [ALLOWED, ALLOWED, ALLOWED, ALLOWED, ALLOWED], // PERSISTENT RESERVE IN, READ KEYS
     [ALLOWED, ALLOWED, ALLOWED, ALLOWED, ALLOWED], // PERSISTENT RESERVE IN, READ RESERVATION
@@ -32,6 +33,7 @@ const TABLE: [[bool; 5]; 10] = [
     [ALLOWED, ALLOWED, ALLOWED, ALLOWED, ALLOWED], // TEST UNIT READY
     [CONFLICT, CONFLICT, ALLOWED, CONFLICT, CONFLICT], // UNMAP
     [CONFLICT, CONFLICT, ALLOWED, CONFLICT, CONFLICT], // WRITE
+    [CONFLICT, CONFLICT, ALLOWED, CONFLICT, CONFLICT], // WRITE SAME
 ];
 
 // The columns, from the left.
@@ -51,19 +53,21 @@ fn number_of(command: Command) -> usize
 {
     match command {
         Command::Tells(what) => match what {
-            Tell::Inquiry => 0,
-            Tell::Keys => 1,
-            Tell::Reservation => 2,
-            Tell::Capacity10 => 5,
-            Tell::Capacity16 => 6,
-            Tell::Ready => 7,
+            Tell::Inquiry => 1,
+            Tell::Keys => 2,
+            Tell::Reservation => 3,
+            Tell::Capacity10 => 6,
+            Tell::Capacity16 => 7,
+            Tell::Ready => 8,
         },
         Command::Moves(what) => match what {
-            Move::Read => 4,
-            Move::Unmap => 8,
-            Move::Write => 9,
+            Move::Status => 0,
+            Move::Read => 5,
+            Move::Unmap => 9,
+            Move::Write => 10,
+            Move::WriteSame => 11,
         },
-        Command::Alters(_) => 3,
+        Command::Alters(_) => 4,
     }
 }
 
@@ -114,11 +118,8 @@ fn column_of(rights: Rights, nexus: u64) -> Column
 pub fn conflicts(command: Command, rights: Rights, nexus: u64) -> bool
     ensures { λ r. ⌜ r ≡ conflict rights nexus command ⌝ }
 {
-    // Two ways that save most calls the search for the sender's registration: no reservation, and a row that stops nobody.
-    if rights.kind == 0 {
-        return ALLOWED;
-    }
     let row = row_of(command);
+    // Saves the search for the sender's registration.
     if !stops_anybody(row) {
         return ALLOWED;
     }

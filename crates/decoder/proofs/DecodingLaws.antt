@@ -110,12 +110,21 @@ module _ (f : Form) (cdb : List ℕ) (q : Request) (e : q ≡ requestBy f cdb) w
         decoded-wrong _ invalidField _
         (row-pass invalidField _ _ (at-size (f .first) false h) ∙ row-stop invalidField _ _ (at-size (f .second) true k)) tt
 
-    pub tested-passes : wrong (f .second) (q .size) cdb ≡ false → Asks q ≡ decoded (first (testRows f cdb)) (asks (requestBy f cdb))
-    unfolding testRows
-    tested-passes k =
-        rw e
-        (decoded-asks _ (requestBy f cdb)
-        (row-pass invalidField _ _ (at-size (f .first) false h) ∙ row-pass invalidField _ _ (at-size (f .second) false k) ∙ row-end))
+    module _ (k : wrong (f .second) (q .size) cdb ≡ false) where
+      pub tested-third : wrong (f .third) (q .size) cdb ≡ true → Wrong invalidField ≡ decoded (first (testRows f cdb)) (asks (requestBy f cdb))
+      unfolding testRows refuses
+      tested-third l =
+          decoded-wrong _ invalidField _
+          (row-pass invalidField _ _ (at-size (f .first) false h) ∙ row-pass invalidField _ _ (at-size (f .second) false k)
+          ∙ row-stop invalidField _ _ (at-size (f .third) true l)) tt
+
+      pub tested-passes : wrong (f .third) (q .size) cdb ≡ false → Asks q ≡ decoded (first (testRows f cdb)) (asks (requestBy f cdb))
+      unfolding testRows
+      tested-passes l =
+          rw e
+          (decoded-asks _ (requestBy f cdb)
+          (row-pass invalidField _ _ (at-size (f .first) false h) ∙ row-pass invalidField _ _ (at-size (f .second) false k)
+          ∙ row-pass invalidField _ _ (at-size (f .third) false l) ∙ row-end))
 
 -- ---- a listed code: the control byte, and its service action
 

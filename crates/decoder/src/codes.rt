@@ -1,9 +1,10 @@
 // The table of commands: what each operation code and service action stand for.
 ghost use mathlib.Core.Path.{_≡_};
-ghost use Rattle.forms.specs.Forms.{form, two, four, eight, listed, entryFor};
+ghost use Rattle.forms.specs.Forms.{formOf, form, two, four, eight, listed, entryFor};
+ghost use Rattle.forms.specs.declared.Move.the-variants.{WriteSame};
 ghost use Rattle.forms.specs.declared.Command.the-variants.{Moves, Alters};
 ghost use Rattle.forms.specs.declared.Span.the-variants.{Absent};
-ghost use Rattle.forms.specs.declared.Test.the-variants.{Nothing, Protection, Count, Scope, Kind};
+ghost use Rattle.forms.specs.declared.Test.the-variants.{Nothing, Protection, Count, SameAnchor, SameCount, Scope, Kind};
 ghost use Rattle.forms.specs.declared.Service.the-variants.{Served, Other};
 use forms::Code;
 use forms::Command;
@@ -16,6 +17,14 @@ use forms::Span;
 use forms::Tell;
 use forms::Test;
 use rights::Action;
+
+// What the table has for a code whose CDBs are so long and have this row.
+fn served(long: usize, form: Form) -> Entry
+    ensures { λ r. ⌜ r ≡ listed long (Served form) ⌝ }
+{
+    let service = Service::Served(form);
+    Entry::Listed(Code { long, service })
+}
 
 // A line of the table.
 fn line(
@@ -34,9 +43,9 @@ fn line(
         size,
         first,
         second,
+        third: Test::Nothing,
     };
-    let service = Service::Served(form);
-    Entry::Listed(Code { long, service })
+    served(long, form)
 }
 
 // A command without field that can be wrong.
@@ -95,6 +104,21 @@ fn transfer16(what: Move) -> Entry
     )
 }
 
+// WRITE SAME(16).
+fn same16() -> Entry
+    ensures { λ r. ⌜ r ≡ listed 16 (Served (formOf (Moves WriteSame) (eight 2) (four 10) Protection SameAnchor SameCount)) ⌝ }
+{
+    let form = Form {
+        command: Command::Moves(Move::WriteSame),
+        address: Span::At(Field::Eight(2)),
+        size: Span::At(Field::Four(10)),
+        first: Test::Protection,
+        second: Test::SameAnchor,
+        third: Test::SameCount,
+    };
+    served(16, form)
+}
+
 // A listed code with a service action that is not.
 fn other(long: usize) -> Entry
     ensures { λ r. ⌜ r ≡ listed long Other ⌝ }
@@ -141,8 +165,8 @@ fn reserve_out(action: u8) -> Entry
     }
 }
 
-// READ CAPACITY(16).
-fn capacity16(action: u8) -> Entry
+// READ CAPACITY(16) and GET LBA STATUS.
+fn service_in(action: u8) -> Entry
     ensures { λ r. ⌜ r ≡ entryFor 0x9E action ⌝ }
 {
     match action {
@@ -151,7 +175,15 @@ fn capacity16(action: u8) -> Entry
             Command::Tells(Tell::Capacity16),
             Span::At(Field::Four(10)),
         ),
-        0x00..=0x0F | 0x11..=0xFF => other(16),
+        0x12 => line(
+            16,
+            Command::Moves(Move::Status),
+            Span::At(Field::Eight(2)),
+            Span::At(Field::Four(10)),
+            Test::Nothing,
+            Test::Nothing,
+        ),
+        0x00..=0x0F | 0x11 | 0x13..=0xFF => other(16),
     }
 }
 
@@ -183,7 +215,8 @@ pub fn entry_for(code: u8, action: u8) -> Entry
         0x5F => reserve_out(action),
         0x88 => transfer16(Move::Read),
         0x8A => transfer16(Move::Write),
-        0x9E => capacity16(action),
+        0x93 => same16(),
+        0x9E => service_in(action),
         0x01..=0x11
         | 0x13..=0x24
         | 0x26..=0x27
@@ -192,7 +225,8 @@ pub fn entry_for(code: u8, action: u8) -> Entry
         | 0x43..=0x5D
         | 0x60..=0x87
         | 0x89
-        | 0x8B..=0x9D
+        | 0x8B..=0x92
+        | 0x94..=0x9D
         | 0x9F..=0xFF => Entry::Unlisted,
     }
 }

@@ -65,11 +65,13 @@ fn request_of(form: Form, cdb: &[u8]) -> Request
     let span = form.size;
     let size = number_at(span, cdb);
     let kind = (numbers::byte(cdb, 2) % 16) as u32;
+    let options = numbers::byte(cdb, 1);
     Request {
         command,
         address,
         size,
         kind,
+        options,
     }
 }
 
@@ -99,6 +101,8 @@ fn is_wrong(test: Test, size: u64, cdb: &[u8]) -> bool
         Test::Protection => 32 <= numbers::byte(cdb, 1),
         Test::Count => (MOST_TRANSFER as u64) < size,
         Test::Anchor => numbers::bit(numbers::byte(cdb, 1), 0),
+        Test::SameAnchor => numbers::bit(numbers::byte(cdb, 1), 4),
+        Test::SameCount => (size == 0) | ((MOST_TRANSFER as u64) < size),
         Test::Scope => 16 <= numbers::byte(cdb, 2),
         Test::Kind => !is_type(numbers::byte(cdb, 2) % 16),
     }
@@ -115,6 +119,10 @@ fn tested(form: Form, cdb: &[u8]) -> Decoded
     }
     let second = form.second;
     if is_wrong(second, request.size, cdb) {
+        return Decoded::Wrong(answers::invalid_field());
+    }
+    let third = form.third;
+    if is_wrong(third, request.size, cdb) {
         return Decoded::Wrong(answers::invalid_field());
     }
     Decoded::Asks(request)

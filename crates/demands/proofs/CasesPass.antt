@@ -7,6 +7,7 @@ use Rattle.store.specs.Step.{step}
 use Rattle.demands.specs.Checker.{passedBy, passed, allPassed}
 use Rattle.demands.specs.Cases.{cases, caseA, caseE}
 use Rattle.demands.specs.FurtherCases.{rising, blocks, caseMostWritten, furtherCases}
+use Rattle.demands.specs.ClearingCases.{same-16, status-lent, status-16, told-run, told-head, caseSame, caseSameRefused, caseStatus, caseGuarded, caseReadable, clearingCases}
 use Rattle.demands.specs.Comparisons.{withoutMedium}
 use Rattle.demands.specs.Useless.{says, pretends}
 use Rattle.demands.proofs.Computing.{meaning}
@@ -19,6 +20,10 @@ cases-pass = tt
 pub further-cases-pass : T (allPassed step furtherCases)
 unfolding meaning
 further-cases-pass = tt
+
+pub clearing-cases-pass : T (allPassed step clearingCases)
+unfolding meaning same-16 status-lent status-16 told-run told-head caseSame caseSameRefused caseStatus caseGuarded caseReadable clearingCases
+clearing-cases-pass = tt
 
 -- "Count 128 passes", in a WRITE: all but the bytes in the slots
 pub most-written-passes : T (passedBy withoutMedium step caseMostWritten)

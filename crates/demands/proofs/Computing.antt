@@ -1,23 +1,26 @@
 -- Every definition that a call computes with, under one name: `unfolding meaning` under a signature opens them all.
 -- Assumes nothing.
 use mathlib.Core.Bool.{Bool, true}
-use Rattle.fields.specs.Bytes.{part, put, zeros}
+use Rattle.fields.specs.Bytes.{part, put, zeros, areZeros}
 use Rattle.fields.specs.Field.{byte, bit, field, bytes}
 use Rattle.answers.specs.Answers.{codesOf, numberOf, statusOf, fixedFormat, senseAfter}
 use Rattle.answers.specs.Order.{firstOf, ifGoodBy, refuses}
-use Rattle.pool.specs.Pool.{place, has, mapped, free, unmapped, readBlock, readBlocks, fill, assign, assignBlocks, putBlocks, writeBlocks, names, freed, unmapOwners, roomFor}
+use Rattle.pool.specs.Pool.{place, has, mapped, free, unmapped, readBlock, readBlocks, fill, assign, assignBlocks, putBlocks, writeBlocks, copies, names, freed, unmapOwners, unmapBlocks, roomFor}
 use Rattle.pool.specs.Valid.{within, distinct, mapOk, capacityOk, slotsOk, poolOk}
 use Rattle.rights.specs.Places.{used, isOf, registered, keyOf, somebody, vacant, known, enrol, withKey, rekeyed, spares, without, alone}
 use Rattle.rights.specs.Rights.{isOneOf, isType, oneHolds, allHold, holds, holderKey, placeOk, placesApart, placesOk, stands, rightsOk, withPlaces, withReservation, withGeneration, held, gone, ended, settled, raised, noRights}
 use Rattle.rights.specs.Actions.{registerFlags, flagRows, stranger, keyWrong, crowded, actionRows, decisionRows, registering, reserving, releasing, clearing, preempting, takingOver, acted}
 use Rattle.rights.specs.Told.{keys, keysData, reservationData}
 use Rattle.descriptors.specs.Descriptors.{descriptorAt, considered, fails, someFails, unmapAll}
+use Rattle.runs.specs.Runs.{isHeld, heldFrom, roomFrom, runAt, runsFrom}
+use Rattle.runs.specs.Page.{runBytes, runsBytes, statusPage, statusData}
 use Rattle.forms.specs.Forms.{action, takes, lines, lookup, entryFor, entryOf, fieldNumber, number, requestBy, askedBy, askedIn, askedOf}
 use Rattle.forms.specs.Tests.{isUnlisted, codeRows, lengthRows, wrong, testRows, serviceRows, codeFieldRows, fieldRows}
 use Rattle.store.specs.Store.{unitOk, usable, leaves, seenOf}
 use Rattle.store.specs.Tell.{inquiryData, capacity10Data, capacity16Data, told, tellRows}
 use Rattle.store.specs.Conflict.{columnUnder, columnOf, row, says, conflict, shutOut}
-use Rattle.store.specs.Move.{pastEnd, readRows, writeRows, unmapRows, moveRows, moved, fetched}
+use Rattle.store.specs.Same.{mayUnmap, hasNoData, blockSent, unmapsSame, sameBlocks}
+use Rattle.store.specs.Move.{pastEnd, readRows, writeRows, sameRows, unmapRows, statusTold, statusRows, moveRows, moved, fetched}
 use Rattle.store.specs.Alter.{parametersOf, alterRows}
 use Rattle.store.specs.Step.{callRows, storeRows, guardRows, stageRows, commandRows, ownRows, answerBy, commandData, dataBy, commandStore, storeBy, stepBy, step}
 use Rattle.store.specs.Fresh.{freshUnit, freshAnswer, fresh, freshStore}
@@ -28,5 +31,5 @@ use Rattle.demands.specs.Cases.{caseOf, caseStill, caseNew, caseA, caseB
 use Rattle.demands.specs.FurtherCases.{caseCounts, caseNinth, caseGeneration, caseGone, caseShared, caseZeroKey, caseSlots, caseUnmap, caseConsidered, caseFields, capacityTold, inquiryTold, caseTold, controlled, wrongField, caseControl, caseFirstByte, flagged, caseFlags, caseTypes, caseLent, caseMost, furtherCases}
 
 unfoldable pub meaning : Bool
-unfolding part put zeros byte bit field bytes codesOf numberOf statusOf fixedFormat senseAfter firstOf ifGoodBy refuses place has mapped free unmapped roomFor readBlock readBlocks fill assign assignBlocks putBlocks writeBlocks names freed unmapOwners within distinct mapOk capacityOk slotsOk poolOk used isOf registered keyOf somebody vacant known enrol withKey rekeyed spares without alone isOneOf isType oneHolds allHold holds placeOk placesApart placesOk stands rightsOk withPlaces withReservation withGeneration held gone ended settled raised noRights columnUnder columnOf row says conflict shutOut registerFlags flagRows stranger keyWrong crowded actionRows decisionRows registering reserving releasing clearing preempting takingOver acted keys keysData holderKey reservationData descriptorAt considered fails someFails unmapAll action takes lines lookup entryFor entryOf fieldNumber number requestBy askedBy askedIn askedOf isUnlisted codeRows lengthRows wrong testRows serviceRows codeFieldRows fieldRows unitOk usable leaves seenOf inquiryData capacity10Data capacity16Data told tellRows pastEnd readRows writeRows unmapRows moveRows moved fetched parametersOf alterRows callRows storeRows guardRows stageRows commandRows ownRows answerBy commandData dataBy commandStore storeBy stepBy step freshUnit freshAnswer fresh freshStore after isOut isShutOut add watched heard over good lays refused conflicts no-status same sameStatus samePlaces sameRights sameUnit samePool numberShows statusShows senseShows returnedShows dataShows ends whole met run passedBy passed allPassed block before new at places two eight made-of made lent call ready capacity-10 capacity-16 cdb-10 cdb-16 read-10 read-16 write-10 write-16 unmap-list descriptor unmap-1 out in-call caseOf caseStill caseNew caseA caseB caseC caseD caseE caseF caseG writeH caseH caseI caseJ caseK caseL cases caseCounts caseNinth caseGeneration caseGone caseShared caseZeroKey caseSlots caseUnmap caseConsidered caseFields capacityTold inquiryTold caseTold controlled wrongField caseControl caseFirstByte flagged caseFlags caseTypes caseLent caseMost furtherCases
+unfolding part put zeros areZeros byte bit field bytes codesOf numberOf statusOf fixedFormat senseAfter firstOf ifGoodBy refuses place has mapped free unmapped roomFor readBlock readBlocks fill assign assignBlocks putBlocks writeBlocks copies names freed unmapOwners unmapBlocks within distinct mapOk capacityOk slotsOk poolOk used isOf registered keyOf somebody vacant known enrol withKey rekeyed spares without alone isOneOf isType oneHolds allHold holds placeOk placesApart placesOk stands rightsOk withPlaces withReservation withGeneration held gone ended settled raised noRights columnUnder columnOf row says conflict shutOut registerFlags flagRows stranger keyWrong crowded actionRows decisionRows registering reserving releasing clearing preempting takingOver acted keys keysData holderKey reservationData descriptorAt considered fails someFails unmapAll isHeld heldFrom roomFrom runAt runsFrom runBytes runsBytes statusPage statusData action takes lines lookup entryFor entryOf fieldNumber number requestBy askedBy askedIn askedOf isUnlisted codeRows lengthRows wrong testRows serviceRows codeFieldRows fieldRows unitOk usable leaves seenOf inquiryData capacity10Data capacity16Data told tellRows mayUnmap hasNoData blockSent unmapsSame sameBlocks pastEnd readRows writeRows sameRows unmapRows statusTold statusRows moveRows moved fetched parametersOf alterRows callRows storeRows guardRows stageRows commandRows ownRows answerBy commandData dataBy commandStore storeBy stepBy step freshUnit freshAnswer fresh freshStore after isOut isShutOut add watched heard over good lays refused conflicts no-status same sameStatus samePlaces sameRights sameUnit samePool numberShows statusShows senseShows returnedShows dataShows ends whole met run passedBy passed allPassed block before new at places two eight made-of made lent call ready capacity-10 capacity-16 cdb-10 cdb-16 read-10 read-16 write-10 write-16 unmap-list descriptor unmap-1 out in-call caseOf caseStill caseNew caseA caseB caseC caseD caseE caseF caseG writeH caseH caseI caseJ caseK caseL cases caseCounts caseNinth caseGeneration caseGone caseShared caseZeroKey caseSlots caseUnmap caseConsidered caseFields capacityTold inquiryTold caseTold controlled wrongField caseControl caseFirstByte flagged caseFlags caseTypes caseLent caseMost furtherCases
 meaning = true

@@ -17,7 +17,7 @@ use Rattle.rights.proofs.Types.{types, every, agreesUnder, agree-under}
 use Rattle.rights.proofs.Holders.{kind-listed}
 use Rattle.forms.specs.declared.Tell.{Tell}
 use Rattle.forms.specs.declared.Move.{Move}
-use Rattle.forms.specs.declared.Move.the-variants.{Read, Write, Unmap}
+use Rattle.forms.specs.declared.Move.the-variants.{Read, Write, WriteSame, Unmap, Status}
 use Rattle.forms.specs.declared.Command.the-variants.{Tells, Moves, Alters}
 use Rattle.forms.specs.declared.Service.{Service}
 use Rattle.forms.specs.declared.Service.the-variants.{Served, Other}
@@ -30,7 +30,7 @@ use Rattle.forms.proofs.Table.{isAlters, altersIn, alters-code}
 use Rattle.pool.specs.Pool.{Pool}
 use Rattle.store.specs.Store.{Store, Call, usable}
 use Rattle.store.specs.Conflict.{conflict, passes, stops, ruled}
-use Rattle.store.specs.Move.{readRows, writeRows, unmapRows, moveRows}
+use Rattle.store.specs.Move.{readRows, writeRows, sameRows, unmapRows, statusRows, moveRows}
 use Rattle.store.specs.Tell.{tellRows}
 use Rattle.store.specs.Step.{callRows, storeRows, guardRows, commandRows, ownRows, step, answerTo}
 use Rattle.store.proofs.ConflictLaws.{holdsBy, ruleBy, table-rule, telling-passes}
@@ -79,7 +79,9 @@ lines-agree : (m : Move) → T (every (agreesUnder (ruleBy (Moves m)) (linesBy m
 unfolding every agreesUnder agree ruleBy linesBy holdsBy stops isType isOneOf oneHolds allHold conflictTable says column sameSender
 lines-agree Read = tt
 lines-agree Write = tt
+lines-agree WriteSame = tt
 lines-agree Unmap = tt
+lines-agree Status = tt
 
 rule-stopped : (m : Move) (s : Store) (c : Call) → T (usable s) → conflict (s .unit .rights) (c .nexus) (Moves m) ≡ stopped s c m
 unfolding ruled passes holds ruleBy linesBy holdsBy stopped senderOf typeIn
@@ -91,13 +93,15 @@ rule-stopped m s c u =
 -- ---- a call on the blocks
 
 moves-none : (m : Move) (q : Request) (capacity : ℕ) (p : Pool) (c : Call) → T (noTen (moveRows m q capacity p c))
-unfolding moveRows readRows writeRows unmapRows refusingBy notTen
+unfolding moveRows readRows writeRows sameRows unmapRows statusRows refusingBy notTen
 moves-none Read q capacity p c = tt
 moves-none Write q capacity p c = tt
+moves-none WriteSame q capacity p c = tt
 moves-none Unmap q capacity p c = tt
+moves-none Status q capacity p c = tt
 
 -- it is answered 10 exactly where the table has a conflict
-move-decided : (m : Move) (s : Store) (c : Call) → Asks m c → T (usable s) → byItself c ≡ Good
+pub move-decided : (m : Move) (s : Store) (c : Call) → Asks m c → T (usable s) → byItself c ≡ Good
     → step s c .seen .answer ≡ Conflict ↔ T (conflict (s .unit .rights) (c .nexus) (Moves m))
 move-decided m s c a u g = (
   λ e. test (conflict (s .unit .rights) (c .nexus) (Moves m)) (λ t. t)

@@ -13,17 +13,19 @@ use Rattle.answers.proofs.OrderLaws.{if-good, if-refused, good-cases}
 use Rattle.pool.specs.Pool.{Pool, readBlock, readBlocks}
 use Rattle.pool.specs.Valid.{capacityOk, slotsOk}
 use Rattle.pool.proofs.Writing.{in-or-out}
-use Rattle.forms.specs.declared.Move.the-variants.{Read, Write, Unmap}
+use Rattle.forms.specs.declared.Move.the-variants.{Read, Write, WriteSame, Unmap, Status}
 use Rattle.forms.specs.declared.Command.{Command}
 use Rattle.forms.specs.declared.Command.the-variants.{Tells, Moves, Alters}
 use Rattle.forms.specs.declared.Request.{Request}
 use Rattle.forms.specs.Forms.{Asked, nothing, asks, askedOf, countIn}
 use Rattle.store.specs.Store.{Store, Call, usable, seenOf}
+use Rattle.store.specs.Same.{hasNoData, blockSent}
 use Rattle.store.specs.Move.{moved}
 use Rattle.store.specs.Fresh.{freshStore}
 use Rattle.store.specs.Step.{commandStore, storeBy, step}
 use Rattle.demands.specs.History.{Event, call, after, afterEvent, machine, isOut, afterAll, add}
 use Rattle.demands.specs.Contents.{Asks, addressIn, IsGood, inRange, plain}
+use Rattle.demands.specs.WriteSame.{isNdob, sent, covers}
 use Rattle.demands.specs.FromFresh.{Answered, answered, outs, blockOf, readsAfter, readsBy, reads, recalledFrom, recalled, recalledBlocks, FromFresh}
 use Rattle.demands.proofs.Usable.{usable-stays}
 use Rattle.demands.proofs.Fresh.{fresh-usable}
@@ -31,6 +33,7 @@ use Rattle.demands.proofs.Demand3.{other-unit, out-unit, event-usable, 
 use Rattle.demands.proofs.Moving.{done-after, refused-after}
 use Rattle.demands.proofs.Transfers.{read-seen, write-contents, write-keeps, fresh-contents}
 use Rattle.demands.proofs.Unmaps.{in-range, range-in, unmap-contents}
+use Rattle.demands.proofs.WriteSame.{same-reads}
 
 -- ---- one call
 
@@ -51,11 +54,13 @@ module _ (s : Store) (c : Call) (g : IsGood s c) (b : ℕ) where
   done-reads : (k : Command) (q : Request) → askedOf (c .cdb) ≡ asks q → q .command ≡ k
       → readBlock (commandStore k q s c .pool) b ≡ readBlock (after step s c .pool) b
       → readBlock (after step s c .pool) b ≡ readsAfter k q (c .dataOut) b (readBlock (s .pool) b)
-  unfolding readsAfter commandStore moved
+  unfolding readsAfter commandStore moved covers sent isNdob blockSent hasNoData
   done-reads (Tells t) q a e d = sym d
   done-reads (Moves Read) q a e d = sym d
   done-reads (Moves Write) q a e d = by-write (record { request = q; is = a; command = e })
+  done-reads (Moves WriteSame) q a e d = same-reads s c (record { request = q; is = a; command = e }) g b
   done-reads (Moves Unmap) q a e d = unmap-contents s c (record { request = q; is = a; command = e }) g b
+  done-reads (Moves Status) q a e d = sym d
   done-reads (Alters x) q a e d = sym d
 
   good-reads : (x : Asked) → askedOf (c .cdb) ≡ x → readBlock (storeBy x s c .pool) b ≡ readBlock (after step s c .pool) b

@@ -26,4 +26,6 @@ pub mod Reservations
 pub mod ZeroKey
 pub mod TakenOver
 pub mod WrongBuilds
+pub mod WriteSame
+pub mod MapTold
 pub mod Proved

@@ -10,10 +10,10 @@ use Rattle.answers.specs.Order.{_if_, first, refuses}
 use Rattle.answers.proofs.OrderLaws.{good-cases, not-good}
 use Rattle.rights.specs.declared.Rights.{Rights}
 use Rattle.forms.specs.declared.Move.{Move}
-use Rattle.forms.specs.declared.Move.the-variants.{Read, Write, Unmap}
+use Rattle.forms.specs.declared.Move.the-variants.{Read, Write, WriteSame, Unmap, Status}
 use Rattle.forms.specs.declared.Command.the-variants.{Moves}
 use Rattle.forms.specs.Forms.{askedOf, countIn}
-use Rattle.forms.proofs.Fields.{isTransfer as isTransferCommand, asked-fits}
+use Rattle.forms.proofs.Fields.{isTransfer as isTransferCommand, isCounted, asked-fits}
 use Rattle.store.specs.Store.{Store, Call, withPool, usable, seenOf}
 use Rattle.store.specs.Conflict.{conflict}
 use Rattle.store.specs.Move.{moveRows, moved, fetched}
@@ -54,7 +54,7 @@ module _ (m : Move) (c : Call) (a : Asks m c) where
   unfolding ownRows commandRows
   asks-rows s = rw (a .is, a .command)
 
-  pub asks-data : (s : Store) → dataBy (askedOf (c .cdb)) s ≡ fetched m (a .request) (s .pool)
+  pub asks-data : (s : Store) → dataBy (askedOf (c .cdb)) s ≡ fetched m (a .request) (s .unit .capacity) (s .pool)
   unfolding dataBy commandData
   asks-data s = rw (a .is, a .command)
 
@@ -66,7 +66,7 @@ module _ (m : Move) (c : Call) (a : Asks m c) where
 
 module _ (m : Move) (s : Store) (c : Call) (a : Asks m c) (e : IsGood s c) where
   -- what is seen of it
-  pub good-seen : step s c .seen ≡ seenOf Good (fetched m (a .request) (s .pool)) c
+  pub good-seen : step s c .seen ≡ seenOf Good (fetched m (a .request) (s .unit .capacity) (s .pool)) c
   good-seen = step-seen s c ∙ ap₂ (λ (x : Answer) (bs : List ℕ). seenOf x bs c) (sym (step-answer s c) ∙ e) (asks-data m c a s)
 
   -- what it leaves
@@ -89,9 +89,19 @@ pub transfer-command : (m : Move) → T (isTransfer m) → T (isTransferCommand 
 unfolding isTransfer isTransferCommand
 transfer-command Read t = tt
 transfer-command Write t = tt
+transfer-command WriteSame t = absurd t
 transfer-command Unmap t = absurd t
+transfer-command Status t = absurd t
+
+counted-command : (m : Move) → T (isTransfer m) → T (isCounted (Moves m))
+unfolding isTransfer isCounted
+counted-command Read t = tt
+counted-command Write t = tt
+counted-command WriteSame t = absurd t
+counted-command Unmap t = absurd t
+counted-command Status t = absurd t
 
 -- "count above 128: 2"
 pub good-count : (m : Move) (s : Store) (c : Call) (a : Asks m c) → IsGood s c → T (isTransfer m) → countIn (a .request) ≤ 128
 good-count m s c a e t =
-    asked-fits (c .cdb) (a .request) (a .is) (good-cleared s c (sym (step-answer s c) ∙ e) .fields) (rw (a .command) (transfer-command m t))
+    asked-fits (c .cdb) (a .request) (a .is) (good-cleared s c (sym (step-answer s c) ∙ e) .fields) (rw (a .command) (counted-command m t))

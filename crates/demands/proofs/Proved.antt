@@ -1,5 +1,6 @@
 -- All that is proved of the store, by one term.
 -- Assumes nothing.
+use Rattle.runs.proofs.Only.{tells-only}
 use Rattle.store.proofs.ConflictLaws.{table-rule}
 use Rattle.demands.specs.Proved.{Proved}
 use Rattle.demands.proofs.Demand1.{demand-1}
@@ -10,6 +11,8 @@ use Rattle.demands.proofs.Conflicts.{cells-decide}
 use Rattle.demands.proofs.ZeroKey.{zero-key, rules-agree}
 use Rattle.demands.proofs.TakenOver.{fresh-taken-over}
 use Rattle.demands.proofs.Telling.{telling}
+use Rattle.demands.proofs.WriteSame.{writes-same}
+use Rattle.demands.proofs.MapTold.{map-told}
 use Rattle.demands.proofs.FromFresh.{from-fresh}
 use Rattle.demands.proofs.Demand3.{demand-3, secrecy}
 use Rattle.demands.proofs.AtC.{faithful, demand-1-at-c, demand-3-at-c}
@@ -25,6 +28,9 @@ proved = record {
   zero-key = zero-key;
   rules-agree = rules-agree;
   telling = telling;
+  writes-same = writes-same;
+  map-told = map-told;
+  one-page = tells-only;
   from-fresh = from-fresh;
   taken-over = fresh-taken-over;
   demand-3 = demand-3;

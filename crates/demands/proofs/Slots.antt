@@ -2,11 +2,11 @@
 -- slots answer every call alike, stay so, and therefore answer alike for ever. Which slot holds which block may differ, and all bytes of free slots.
 -- Assumes nothing.
 use mathlib.Core.Path.{_≡_, refl, sym, ap, ap₂, _∙_, subst₂}
-use mathlib.Core.Bool.{Bool, true, false, not}
+use mathlib.Core.Bool.{Bool, true, false, not, _&&_}
 use mathlib.Core.List.{List, [], _∷_}
 use Prim.Native.Nat.{ℕ, _*_}
-use lib.Dec.{T, leb}
-use lib.ListN.{length}
+use lib.Dec.{T, leb, ltb}
+use lib.ListN.{length, take}
 use Rattle.answers.specs.declared.Answer.{Answer}
 use Rattle.answers.specs.declared.Answer.the-variants.{Good, Short}
 use Rattle.answers.specs.Answers.{outOfRange, noRoom}
@@ -18,21 +18,24 @@ use Rattle.pool.proofs.Keeping.{mapOk-distinct, poolOk-whole, poolOk-map, poolO
 use Rattle.pool.specs.Alike.{Alike}
 use Rattle.pool.proofs.Alike.{alike-self, alike-back, alike-through, alike-unmapped, alike-reads, alike-write, alike-unmap}
 use Rattle.descriptors.specs.declared.Descriptor.{Descriptor}
+use Rattle.runs.proofs.RunLaws.{status-same}
 use Rattle.forms.specs.declared.Move.{Move}
-use Rattle.forms.specs.declared.Move.the-variants.{Read, Write, Unmap}
+use Rattle.forms.specs.declared.Move.the-variants.{Read, Write, WriteSame, Unmap, Status}
 use Rattle.forms.specs.declared.Command.{Command}
 use Rattle.forms.specs.declared.Command.the-variants.{Tells, Moves, Alters}
 use Rattle.forms.specs.declared.Request.{Request}
-use Rattle.forms.specs.Forms.{Asked, nothing, asks, askedOf, countIn}
+use Rattle.forms.specs.Forms.{Asked, nothing, asks, askedOf, countIn, allocationIn}
 use Rattle.forms.proofs.Table.{isMoves}
 use Rattle.store.specs.declared.Unit.{Unit}
 use Rattle.store.specs.Store.{Store, Call, Seen, usable, seenOf}
-use Rattle.store.specs.Move.{writeRows, moveRows, moved, fetched}
+use Rattle.store.specs.Same.{unmapsSame}
+use Rattle.store.specs.Move.{writeRows, sameRows, statusTold, statusRows, moveRows, moved, fetched}
 use Rattle.store.specs.Fresh.{freshStore}
 use Rattle.store.specs.Step.{commandRows, ownRows, commandData, dataBy, commandStore, storeBy, step}
 use Rattle.store.proofs.Parts.{answers-alike, good-own}
 use Rattle.store.proofs.StoreLaws.{step-answer, step-seen, command-rows, command-data, command-unit}
-use Rattle.store.proofs.MoveLaws.{write-passes}
+use Rattle.store.proofs.SameLaws.{same-alike}
+use Rattle.store.proofs.MoveLaws.{write-passes, same-passes}
 use Rattle.demands.specs.History.{Event, call, after, afterEvent, machine, seenAll}
 use Rattle.demands.specs.Contents.{descriptorsOf, unmapEach, Same}
 use Rattle.demands.proofs.Usable.{usable-pool, usable-stays}
@@ -58,18 +61,27 @@ behind a true xs ys e = refl
 behind a false xs ys e = e
 
 rows-same : (m : Move) (q : Request) (capacity : ℕ) (x y : Pool) (c : Call) → Alike x y → first (moveRows m q capacity x c) ≡ first (moveRows m q capacity y c)
-unfolding moveRows writeRows roomFor
+unfolding moveRows writeRows sameRows statusRows statusTold roomFor
 rows-same Read q capacity x y c l = refl
 rows-same Write q capacity x y c l =
     behind outOfRange _ _ _ (behind Short _ _ _
     (ap₂ (λ (m n : ℕ). first (noRoom if not (leb m n) ∷ [])) (alike-unmapped x y l (q .address .0) (countIn q)) (l .frees)))
+rows-same WriteSame q capacity x y c l =
+    behind outOfRange _ _ _ (behind Short _ _ _
+    (ap₂ (λ (m n : ℕ). first (noRoom if (not (unmapsSame (q .options) (c .dataOut)) && not (leb m n)) ∷ []))
+    (alike-unmapped x y l (q .address .0) (countIn q)) (l .frees)))
 rows-same Unmap q capacity x y c l = refl
+rows-same Status q capacity x y c l =
+    ap (λ (page : List ℕ). first (outOfRange if leb capacity (q .address .0) ∷ Short if ltb (length (c .dataIn)) (length (take (allocationIn q) page)) ∷ []))
+    (status-same capacity (q .address .0) (x .owners) (y .owners) (l .maps))
 
-fetched-same : (m : Move) (q : Request) (x y : Pool) → Alike x y → fetched m q x ≡ fetched m q y
-unfolding fetched
-fetched-same Read q x y l = alike-reads x y l (q .address .0) (countIn q)
-fetched-same Write q x y l = refl
-fetched-same Unmap q x y l = refl
+fetched-same : (m : Move) (q : Request) (capacity : ℕ) (x y : Pool) → Alike x y → fetched m q capacity x ≡ fetched m q capacity y
+unfolding fetched statusTold
+fetched-same Read q capacity x y l = alike-reads x y l (q .address .0) (countIn q)
+fetched-same Write q capacity x y l = refl
+fetched-same WriteSame q capacity x y l = refl
+fetched-same Unmap q capacity x y l = refl
+fetched-same Status q capacity x y l = ap (take (allocationIn q)) (status-same capacity (q .address .0) (x .owners) (y .owners) (l .maps))
 
 module _ (s t : Store) (c : Call) (e : Same s t) where
   command-same : (k : Command) (q : Request) → first (commandRows k q s c) ≡ first (commandRows k q t c)
@@ -87,7 +99,8 @@ module _ (s t : Store) (c : Call) (e : Same s t) where
   returned-same : (k : Command) (q : Request) → commandData k q s ≡ commandData k q t
   unfolding commandData isMoves
   returned-same (Tells x) q = command-data (Tells x) q s t tt (e .unit)
-  returned-same (Moves m) q = fetched-same m q (s .pool) (t .pool) (e .pool)
+  returned-same (Moves m) q =
+      ap (λ (u : Unit). fetched m q (u .capacity) (s .pool)) (e .unit) ∙ fetched-same m q (t .unit .capacity) (s .pool) (t .pool) (e .pool)
   returned-same (Alters a) q = command-data (Alters a) q s t tt (e .unit)
 
   data-same : (x : Asked) → dataBy x s ≡ dataBy x t
@@ -120,8 +133,13 @@ module _ (capacity : ℕ) (x y : Pool) (c : Call) (u : T (poolOk capacity x)) (v
   moved-same Write q e =
       let h = write-passes capacity (x .owners) (q .address .0) (countIn q) (c .dataOut) .0 e in
       alike-write x y l (q .address .0) (countIn q) (c .dataOut) (poolOk-whole capacity x u) (poolOk-whole capacity y v) (h .1) (h .2)
+  moved-same WriteSame q e =
+      let h = same-passes capacity (x .owners) (q .address .0) (countIn q) (q .options) (c .dataOut) .0 e in
+      same-alike x y l (q .address .0) (countIn q) (q .options) (c .dataOut) (poolOk-whole capacity x u) (poolOk-whole capacity y v)
+      (mapOk-distinct capacity (x .owners) (poolOk-map capacity x u)) (mapOk-distinct capacity (y .owners) (poolOk-map capacity y v)) (h .1) (h .2)
   moved-same Unmap q e =
       subst₂ Alike (sym (each-moved q x c)) (sym (each-moved q y c)) (each-same capacity (descriptorsOf q (c .dataOut)) x y u v l)
+  moved-same Status q e = l
 
 module _ (s t : Store) (c : Call) (u : T (usable s)) (v : T (usable t)) (e : Same s t) where
   left-same : (k : Command) (q : Request) → first (commandRows k q s c) ≡ Good → Same (commandStore k q s c) (commandStore k q t c)

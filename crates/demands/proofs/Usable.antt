@@ -20,7 +20,7 @@ use Rattle.rights.specs.Rights.{isType, rightsOk}
 use Rattle.rights.specs.Actions.{acted}
 use Rattle.rights.proofs.Keeping.{makes, acted-keeps}
 use Rattle.forms.specs.declared.Move.{Move}
-use Rattle.forms.specs.declared.Move.the-variants.{Read, Write, Unmap}
+use Rattle.forms.specs.declared.Move.the-variants.{Read, Write, WriteSame, Unmap, Status}
 use Rattle.forms.specs.declared.Command.{Command}
 use Rattle.forms.specs.declared.Command.the-variants.{Tells, Moves, Alters}
 use Rattle.forms.specs.declared.Request.{Request}
@@ -33,7 +33,8 @@ use Rattle.store.specs.Alter.{parametersOf, alterRows}
 use Rattle.store.specs.Step.{commandRows, ownRows, commandStore, storeBy, step, answerTo}
 use Rattle.store.proofs.Parts.{Cleared, good-cleared, good-own, call-nexus}
 use Rattle.store.proofs.StoreLaws.{step-ways}
-use Rattle.store.proofs.MoveLaws.{write-passes}
+use Rattle.store.proofs.SameLaws.{same-ways}
+use Rattle.store.proofs.MoveLaws.{write-passes, same-passes}
 use Rattle.demands.specs.History.{after}
 
 -- ---- usable, taken apart and put together
@@ -84,19 +85,32 @@ unfolding moveRows moved
 moved-ok Read q capacity p c t e = t
 moved-ok Write q capacity p c t e =
     poolOk-writeBlocks capacity p _ _ (c .dataOut) t (write-passes capacity (p .owners) (q .address .0) (countIn q) (c .dataOut) .0 e .0)
+moved-ok WriteSame q capacity p c t e =
+    let h = same-passes capacity (p .owners) (q .address .0) (countIn q) (q .options) (c .dataOut) .0 e in
+    same-ways p _ _ (q .options) (c .dataOut) (λ x. T (poolOk capacity x))
+    (λ _. poolOk-unmapBlocks capacity p _ _ t) (λ _. poolOk-writeBlocks capacity p _ _ _ t (h .0))
 moved-ok Unmap q capacity p c t e = unmapAll-ok capacity (p .owners) (p .medium) (c .dataOut) 8 _ t
+moved-ok Status q capacity p c t e = t
 
 moved-owners : (m : Move) (q : Request) (p : Pool) (c : Call) → length (moved m q p c .owners) ≡ length (p .owners)
-unfolding moved writeBlocks
+unfolding moved writeBlocks unmapBlocks
 moved-owners Read q p c = refl
 moved-owners Write q p c = length-assignBlocks (p .owners) _ _
+moved-owners WriteSame q p c =
+    same-ways p _ _ (q .options) (c .dataOut) (λ x. length (x .owners) ≡ length (p .owners))
+    (λ _. length-unmapOwners (p .owners) _ _) (λ _. length-assignBlocks (p .owners) _ _)
 moved-owners Unmap q p c = unmapAll-length (p .owners) (c .dataOut) 8 _
+moved-owners Status q p c = refl
 
 moved-medium : (m : Move) (q : Request) (p : Pool) (c : Call) → length (moved m q p c .medium) ≡ length (p .medium)
-unfolding moved writeBlocks
+unfolding moved writeBlocks unmapBlocks
 moved-medium Read q p c = refl
 moved-medium Write q p c = length-putBlocks _ (p .medium) _ _ (c .dataOut)
+moved-medium WriteSame q p c =
+    same-ways p _ _ (q .options) (c .dataOut) (λ x. length (x .medium) ≡ length (p .medium))
+    (λ _. refl) (λ _. length-putBlocks _ (p .medium) _ _ _)
 moved-medium Unmap q p c = refl
+moved-medium Status q p c = refl
 
 -- ---- commands that alter
 

@@ -57,12 +57,12 @@ module _ (m : Move) (s : Store) (c : Call) (a : Asks m c) (u : T (usable s)) (g 
       ∙ next-after (guardAnswer (s .unit) c) _ (ap first (asks-guard m c a (s .unit .rights) (c .nexus)) ∙ row-pass Conflict _ _ h ∙ row-end)
       ∙ ap first (asks-rows m c a s)
 
-rows-answer : (m : Move) (s : Store) (c : Call) (a : Asks m c) → Reaches s a
+pub rows-answer : (m : Move) (s : Store) (c : Call) (a : Asks m c) → Reaches s a
     → step s c .seen .answer ≡ first (moveRows m (a .request) (s .unit .capacity) (s .pool) c)
 rows-answer m s c a r = own-answers m s c a (r .store) (r .call) (r .free)
 
 -- an answer is GOOD exactly where the rows that give it are
-decided-by : {X : Type 0} {a b : Answer} → a ≡ b → b ≡ Good ↔ X → a ≡ Good ↔ X
+pub decided-by : {X : Type 0} {a b : Answer} → a ≡ b → b ≡ Good ↔ X → a ≡ Good ↔ X
 decided-by e h = (λ g. h .0 (sym e ∙ g), λ x. e ∙ h .1 x)
 
 -- ---- READ

@@ -21,7 +21,7 @@ use Rattle.answers.specs.Order.{_if_}
 use Rattle.pool.specs.Bounds.{mostTransfer}
 use Rattle.pool.specs.Pool.{Pool}
 use Rattle.forms.specs.declared.Move.{Move}
-use Rattle.forms.specs.declared.Move.the-variants.{Read, Write, Unmap}
+use Rattle.forms.specs.declared.Move.the-variants.{Read, Write, WriteSame, Unmap, Status}
 use Rattle.forms.specs.declared.Command.the-variants.{Moves}
 use Rattle.forms.specs.declared.Test.the-variants.{Protection, Count}
 use Rattle.forms.specs.declared.Form.{Form}
@@ -67,7 +67,8 @@ module _ (m : Move) (t : T (isTransfer m)) (c : Call) (a : Asks m c) where
   length-rows l = rw (row .entry, eq-eqb _ _ (l ∙ long-is))
 
   field-rows : fieldRows (entryOf (c .cdb)) (c .cdb)
-      ≡ invalidField if bit 2 (control c) ∷ invalidField if leb 32 (byte 1 (c .cdb)) ∷ invalidField if ltb mostTransfer (countIn (a .request)) ∷ []
+      ≡ invalidField if bit 2 (control c) ∷ invalidField if leb 32 (byte 1 (c .cdb)) ∷ invalidField if ltb mostTransfer (countIn (a .request))
+      ∷ invalidField if false ∷ []
   field-rows = transfer-fields (c .cdb) (a .request) row transfers ∙ rw long-is
 
 -- ---- the same requests
@@ -77,19 +78,25 @@ module _ (p q : Request) (e : SameRange p q) (c d : Call) (i : c .dataIn ≡ d .
   unfolding moveRows isTransfer
   rows-same Read capacity x t = rw (e .address, e .count, i)
   rows-same Write capacity x t = rw (e .address, e .count, o)
+  rows-same WriteSame capacity x t = absurd t
   rows-same Unmap capacity x t = absurd t
+  rows-same Status capacity x t = absurd t
 
-  fetched-same : (m : Move) (x : Pool) → T (isTransfer m) → fetched m p x ≡ fetched m q x
+  fetched-same : (m : Move) (capacity : ℕ) (x : Pool) → T (isTransfer m) → fetched m p capacity x ≡ fetched m q capacity x
   unfolding fetched isTransfer
-  fetched-same Read x t = rw (e .address, e .count)
-  fetched-same Write x t = refl
-  fetched-same Unmap x t = absurd t
+  fetched-same Read capacity x t = rw (e .address, e .count)
+  fetched-same Write capacity x t = refl
+  fetched-same WriteSame capacity x t = absurd t
+  fetched-same Unmap capacity x t = absurd t
+  fetched-same Status capacity x t = absurd t
 
   moved-same : (m : Move) (x : Pool) → T (isTransfer m) → moved m p x c ≡ moved m q x d
   unfolding moved isTransfer
   moved-same Read x t = refl
   moved-same Write x t = rw (e .address, e .count, o)
+  moved-same WriteSame x t = absurd t
   moved-same Unmap x t = absurd t
+  moved-same Status x t = absurd t
 
 -- ---- of whole calls
 
@@ -121,7 +128,7 @@ module _ (m : Move) (t : T (isTransfer m)) (s : Store) (c d : Call) (a : Asks m 
   seen-same =
       step-seen s c
       ∙ ap₂ (λ (x : Answer) (bs : List ℕ). seenOf x bs c) (same-answer s c d rows-agree)
-      (asks-data m c a s ∙ fetched-same (a .request) (b .request) (e .range) c d (e .dataIn) (e .dataOut) m (s .pool) t ∙ sym (asks-data m d b s))
+      (asks-data m c a s ∙ fetched-same (a .request) (b .request) (e .range) c d (e .dataIn) (e .dataOut) m (s .unit .capacity) (s .pool) t ∙ sym (asks-data m d b s))
       ∙ buffers-same _ _
       ∙ sym (step-seen s d)
 

@@ -1,4 +1,4 @@
--- Words for what a store holds and for the calls that move it: used by the laws of READ, WRITE and UNMAP.
+-- Words for what a store holds and for the calls that move it: used by the laws of the commands on the blocks.
 -- Assumes nothing.
 use mathlib.Core.Path.{_≡_}
 use mathlib.Core.Bool.{Bool, true, false, _&&_, _||_}
@@ -16,7 +16,7 @@ use Rattle.pool.specs.Alike.{Alike}
 use Rattle.descriptors.specs.declared.Descriptor.{Descriptor}
 use Rattle.descriptors.specs.Descriptors.{descriptorAt, considered}
 use Rattle.forms.specs.declared.Move.{Move}
-use Rattle.forms.specs.declared.Move.the-variants.{Read, Write, Unmap}
+use Rattle.forms.specs.declared.Move.the-variants.{Read, Write, WriteSame, Unmap, Status}
 use Rattle.forms.specs.declared.Command.{Command}
 use Rattle.forms.specs.declared.Command.the-variants.{Moves}
 use Rattle.forms.specs.declared.Entry.{Entry}
@@ -37,7 +37,7 @@ pub record AsksFor (k : Command) (c : Call) : Type 0 where
   pub is : askedOf (c .cdb) ≡ asks request
   pub command : request .command ≡ k
 
--- it is a READ, a WRITE or an UNMAP
+-- it is this command on the blocks
 abbrev pub Asks : Move → Call → Type 0
 Asks m c = AsksFor (Moves m) c
 
@@ -97,7 +97,9 @@ Apart p q = (i : ℕ) → i < countIn q → Outside (addressIn p) (countIn p) (a
 unfoldable pub isTransfer : Move → Bool
 isTransfer Read = true
 isTransfer Write = true
+isTransfer WriteSame = false
 isTransfer Unmap = false
+isTransfer Status = false
 
 -- how long a CDB is, as its code has it
 unfoldable pub longOf : Entry → ℕ

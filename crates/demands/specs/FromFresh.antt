@@ -12,12 +12,13 @@ use Rattle.answers.specs.declared.Answer.{Answer}
 use Rattle.answers.specs.declared.Answer.the-variants.{Good}
 use Rattle.answers.specs.Order.{ifGood}
 use Rattle.pool.specs.Pool.{readBlock}
-use Rattle.forms.specs.declared.Move.the-variants.{Read, Write, Unmap}
+use Rattle.forms.specs.declared.Move.the-variants.{Read, Write, WriteSame, Unmap, Status}
 use Rattle.forms.specs.declared.Command.{Command}
 use Rattle.forms.specs.declared.Command.the-variants.{Tells, Moves, Alters}
 use Rattle.forms.specs.declared.Request.{Request}
 use Rattle.forms.specs.Forms.{Asked, nothing, asks, askedOf, countIn}
 use Rattle.store.specs.Store.{Store, Call, usable, seenOf}
+use Rattle.store.specs.Same.{blockSent}
 use Rattle.store.specs.Step.{step}
 use Rattle.demands.specs.History.{Event, call, after, machine, isOut, afterAll, add}
 use Rattle.demands.specs.Contents.{Asks, addressIn, IsGood, inRange, descriptorsOf, names, plain}
@@ -45,11 +46,14 @@ outs (call c ∷ es) = add (isOut c) (call c) (outs es)
 unfoldable pub blockOf : ℕ → List ℕ → List ℕ
 blockOf i out = take 512 (drop (512 * i) out)
 
--- what block b reads after a command that is done, where it read `old` before: its own part of what is written, zeros where it is unmapped
+-- what block b reads after a command that is done, where it read `old` before: its own part of what is written, the
+-- block that WRITE SAME sends, zeros where it is unmapped
 unfoldable pub readsAfter : Command → Request → List ℕ → ℕ → List ℕ → List ℕ
 readsAfter (Moves Write) q out b old = cond (inRange (addressIn q) (countIn q) b) (blockOf (b - addressIn q) out) old
+readsAfter (Moves WriteSame) q out b old = cond (inRange (addressIn q) (countIn q) b) (blockSent (q .options) out) old
 readsAfter (Moves Unmap) q out b old = cond (names (descriptorsOf q out) b) (zeros 512) old
 readsAfter (Moves Read) q out b old = old
+readsAfter (Moves Status) q out b old = old
 readsAfter (Tells t) q out b old = old
 readsAfter (Alters a) q out b old = old
 

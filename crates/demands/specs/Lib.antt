@@ -3,6 +3,7 @@ pub mod Checker
 pub mod Bench
 pub mod Cases
 pub mod FurtherCases
+pub mod ClearingCases
 pub mod Comparisons
 pub mod Generation
 pub mod Useless
@@ -16,4 +17,6 @@ pub mod ConflictTable
 pub mod Telling
 pub mod ZeroKey
 pub mod WrongBuilds
+pub mod WriteSame
+pub mod MapTold
 pub mod Proved

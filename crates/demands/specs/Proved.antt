@@ -17,13 +17,16 @@ use Rattle.demands.specs.Reservations.{Reservations}
 use Rattle.demands.specs.ConflictTable.{TableIsRule, CellsDecide}
 use Rattle.demands.specs.ZeroKey.{ZeroKey, RulesAgree, Story, TakenOver}
 use Rattle.demands.specs.Telling.{Telling}
+use Rattle.demands.specs.WriteSame.{WritesSame}
+use Rattle.demands.specs.MapTold.{OnePage, MapTold}
 use Rattle.demands.specs.FromFresh.{FromFresh}
 use Rattle.demands.specs.AtC.{Faithful, Demand1AtC, Demand3AtC}
 
 pub record Proved : Type 0 where
   -- every call gets a listed answer, and a refusal changes nothing
   pub demand-1 : Demand1 step
-  -- every answer and the whole state after it are what the rules say; and so it looks to those who write and read, who reserve, who take over, and who ask
+  -- every answer and the whole state after it are what the rules say; and so it looks to those who write and read, who reserve, who take over, who ask,
+  -- who clear logs, and who ask for the map
   pub demand-2 : Demand2 step
   pub storage : Storage
   pub reservations : Reservations step
@@ -32,6 +35,9 @@ pub record Proved : Type 0 where
   pub zero-key : ZeroKey step
   pub rules-agree : RulesAgree
   pub telling : Telling step
+  pub writes-same : WritesSame step
+  pub map-told : MapTold step
+  pub one-page : OnePage
   -- step by step from a fresh store
   pub from-fresh : (capacity slots : ℕ) (medium : List ℕ) → T (capacityOk capacity) → T (slotsOk slots) → length medium ≡ blockBytes * slots
       → FromFresh (freshStore capacity slots medium)

@@ -17,7 +17,7 @@ use Rattle.rights.specs.Told.{keysData, reservationData}
 use Rattle.forms.specs.declared.Tell.{Tell}
 use Rattle.forms.specs.declared.Tell.the-variants.{Keys, Reservation}
 use Rattle.forms.specs.declared.Move.{Move}
-use Rattle.forms.specs.declared.Move.the-variants.{Read, Write, Unmap}
+use Rattle.forms.specs.declared.Move.the-variants.{Read, Write, WriteSame, Unmap, Status}
 use Rattle.forms.specs.declared.Command.{Command}
 use Rattle.forms.specs.declared.Command.the-variants.{Tells, Moves, Alters}
 use Rattle.forms.specs.Forms.{Asked, nothing, asks, askedOf, allocationIn}
@@ -157,6 +157,9 @@ unfoldable pub column : Move → Line → Bool
 column Read l = l .read
 column Write l = l .write
 column Unmap l = l .unmap
+-- Q-1: "Conflicts: as WRITE and as READ."
+column WriteSame l = l .write
+column Status l = l .read
 
 -- what the table says; it says nothing where there is no reservation
 unfoldable pub says : List Line → ℕ → Sender → Move → Bool

@@ -12,7 +12,7 @@ use Rattle.answers.specs.Answers.{noRoom, numberOf, senseAfter}
 use Rattle.pool.specs.Pool.{roomFor}
 use Rattle.forms.specs.declared.Command.{Command}
 use Rattle.forms.specs.declared.Command.the-variants.{Tells, Moves, Alters}
-use Rattle.forms.specs.declared.Move.the-variants.{Read, Write, Unmap}
+use Rattle.forms.specs.declared.Move.the-variants.{Read, Write, WriteSame, Unmap, Status}
 use Rattle.forms.specs.Forms.{Asked, nothing, asks, askedOf, countIn}
 use Rattle.store.specs.Store.{Store, Call, Seen}
 use Rattle.store.specs.Step.{step}
@@ -71,7 +71,9 @@ unfoldable pub isWrite : Command → Bool
 isWrite (Tells t) = false
 isWrite (Moves Read) = false
 isWrite (Moves Write) = true
+isWrite (Moves WriteSame) = false
 isWrite (Moves Unmap) = false
+isWrite (Moves Status) = false
 isWrite (Alters a) = false
 
 -- of what is asked for, whether it is a WRITE of "more unmapped blocks … than free slots"

@@ -1,11 +1,12 @@
--- Builds that are wrong in one thing each: the laws of reservations refuse three of them, those of telling the fourth.
+-- Builds that are wrong in one thing each: the laws of reservations refuse three of them, those of telling the fourth, those of WRITE SAME the
+-- fifth, and demand 3 the last.
 -- Assumes nothing.
 use mathlib.Core.Bool.{not, _&&_, cond}
 use mathlib.Core.List.{List, [], _∷_, _++_}
-use Prim.Native.Nat.{ℕ}
+use Prim.Native.Nat.{ℕ, _-_}
 use lib.Dec.{eqb}
 use Rattle.fields.specs.Bytes.{put, zeros}
-use Rattle.fields.specs.Field.{byte, bytes}
+use Rattle.fields.specs.Field.{byte, field, bytes}
 use Rattle.answers.specs.declared.Answer.the-variants.{Conflict}
 use Rattle.pool.specs.Pool.{pool}
 use Rattle.rights.specs.Places.{unused, registration}
@@ -57,6 +58,21 @@ bare s c =
     (record { seen = cleared14 (step s c .seen); store = s })
     (step s c)
 
+-- WRITE SAME leaves its last block out, and says GOOD
+unfoldable pub lastMissed : Build
+lastMissed s c =
+    cond (eqb (byte 0 (c .cdb)) 0x93)
+    (record {
+      seen = step s c .seen;
+      store = step s (callWith (put (c .cdb) 10 (bytes 4 (field 10 4 (c .cdb) - 1))) (c .nexus) (c .dataOut) (c .dataIn) (c .sense)) .store;
+    })
+    (step s c)
+
+-- GET LBA STATUS asks no reservation: it tells the map to those who may not read
+unfoldable pub openStatus : Build
+openStatus s c =
+    cond (eqb (byte 0 (c .cdb)) 0x9E && eqb (action (c .cdb)) 0x12) (record { seen = step (unreserved s) c .seen; store = s }) (step s c)
+
 -- ---- a store and the calls that show it
 
 -- capacity 8, one free slot; type 1, held by nexus 1 with the key 11h; nexus 2 is registered with the key 22h
@@ -92,3 +108,30 @@ writes = showing (cdb10 0x2A 0 1) 3 (zeros 512)
 -- READ CAPACITY(16) of 32 bytes
 unfoldable pub asksCapacity : Call
 asksCapacity = showing (0x9E ∷ 0x10 ∷ (zeros 11 ++ (32 ∷ 0 ∷ 0 ∷ []))) 3 []
+
+-- WRITE SAME of blocks 0 and 1 with NDOB and UNMAP by the holder
+unfoldable pub writesSame : Call
+writesSame = showing (0x93 ∷ 0x09 ∷ (zeros 11 ++ (2 ∷ 0 ∷ 0 ∷ []))) 1 []
+
+-- block 1 is mapped there
+unfoldable pub logged : Store
+logged = record { unit = shown .unit; pool = pool (2 ∷ []) (zeros 511 ++ (0xB0 ∷ [])) }
+
+-- capacity 8 and one slot with this owner; type 3, held by nexus 1
+unfoldable pub guarded : ℕ → Store
+guarded owner = record {
+  unit = record {
+    capacity = 8;
+    rights = record {
+      places = registration 1 0x11 ∷ unused ∷ unused ∷ unused ∷ unused ∷ unused ∷ unused ∷ unused ∷ [];
+      holder = 1;
+      generation = 0;
+      kind = 3;
+    };
+  };
+  pool = pool (owner ∷ []) (zeros 512);
+}
+
+-- GET LBA STATUS of everything by a nexus that is shut out
+unfoldable pub asksStatus : Call
+asksStatus = showing (0x9E ∷ 0x12 ∷ (zeros 10 ++ (2 ∷ 0 ∷ 0 ∷ 0 ∷ []))) 3 []

@@ -1,12 +1,15 @@
--- Laws of bytes in lent buffers: `put`, `part`, `zeros`.
+-- Laws of bytes in lent buffers: `put`, `part`, `zeros`, `areZeros`.
 -- Assumes nothing.
-use mathlib.Core.Path.{_≡_, refl, sym, ap, _∙_}
+use mathlib.Core.Path.{_≡_, refl, sym, ap, ap₂, _∙_}
+use mathlib.Core.Bool.{true, _&&_}
 use mathlib.Core.List.{List, [], _∷_, _++_}
 use Prim.Native.Nat.{ℕ, zero, suc, _+_, _≤_}
 use native.Mathlib.Omega.{arith}
 use native.Mathlib.Nat.{zero-add, suc-add}
+use lib.Dec.{eqb, eqb→eq}
 use lib.ListN.{length, take, drop, replicate, length-take, length-drop}
-use Rattle.fields.specs.Bytes.{part, put, zeros}
+use Rattle.fields.specs.Bytes.{part, put, zeros, areZeros}
+use Rattle.fields.proofs.Tests.{and-l, and-r, true→T, T-true}
 
 -- ---- zeros
 
@@ -24,6 +27,19 @@ pub zeros-add : (m n : ℕ) → zeros m ++ zeros n ≡ zeros (m + n)
 unfolding zeros
 zeros-add zero n = ap zeros (sym (zero-add n))
 zeros-add (suc m) n = ap (λ (l : List ℕ). 0 ∷ l) (zeros-add m n) ∙ ap zeros (sym (suc-add m n))
+
+pub areZeros-zeros : (n : ℕ) → areZeros (zeros n) ≡ true
+unfolding areZeros zeros
+areZeros-zeros zero = refl
+areZeros-zeros (suc n) = areZeros-zeros n
+
+pub areZeros-is : (l : List ℕ) → areZeros l ≡ true → l ≡ zeros (length l)
+unfolding areZeros zeros
+areZeros-is [] e = refl
+areZeros-is (x ∷ xs) e =
+    let t = true→T (eqb x 0 && areZeros xs) e in
+    ap₂ (λ (y : ℕ) (l : List ℕ). y ∷ l) (eqb→eq x 0 (and-l (eqb x 0) (areZeros xs) t))
+    (areZeros-is xs (T-true (areZeros xs) (and-r (eqb x 0) (areZeros xs) t)))
 
 -- ---- put
 

@@ -1,13 +1,16 @@
 -- One turn of each loop over lent bytes.
 -- Assumes nothing.
 use mathlib.Core.Path.{_≡_, refl, sym, ap, _∙_}
+use mathlib.Core.Bool.{true, false}
 use mathlib.Core.List.{List, [], _∷_, _++_}
+use mathlib.Core.Logic.{_≢_}
 use Prim.Native.Nat.{ℕ, zero, suc, _+_, _<_, _≤_}
 use native.Mathlib.Omega.{arith}
 use native.Mathlib.Numerals.{add-one}
-use lib.ListN.{length, getD, take, set}
-use lib.Seq.{take-all, take-suc, take-suc-set}
-use Rattle.fields.specs.Bytes.{put, zeros}
+use lib.ListN.{length, getD, take, drop, set, drop-of-length-le}
+use lib.Seq.{take-all, take-suc, take-suc-set, drop-cons}
+use borrow.Author.Tests.{eq-eqb, ne-eqb}
+use Rattle.fields.specs.Bytes.{put, zeros, areZeros}
 use Rattle.fields.proofs.BytesLaws.{put-none}
 
 -- copying
@@ -49,3 +52,17 @@ put-more (x ∷ xs) (b ∷ bs) (suc i) hd hs = ap (λ (l : List ℕ). b ∷ l) (
 pub put-turn : (e d s : List ℕ) (i : ℕ) → i < length d → i < length s → e ≡ put d 0 (take i s)
     → set e i (getD s i 0) ≡ put d 0 (take (i + 1) s)
 put-turn e d s i hd hs q = rw (add-one i, q) (put-more d s i hd hs)
+
+-- looking for a byte that is not 0
+module _ (l : List ℕ) (i : ℕ) where
+  pub zeros-turn : i < length l → getD l i 0 ≡ 0 → areZeros (drop i l) ≡ areZeros (drop (i + 1) l)
+  unfolding areZeros
+  zeros-turn h e = rw (add-one i, drop-cons l i 0, eq-eqb (getD l i 0) 0 e)
+
+  pub zeros-stop : i < length l → getD l i 0 ≢ 0 → areZeros (drop i l) ≡ false
+  unfolding areZeros
+  zeros-stop h d = rw (drop-cons l i 0, ne-eqb (getD l i 0) 0 d)
+
+  pub zeros-end : length l ≤ i → areZeros (drop i l) ≡ true
+  unfolding areZeros
+  zeros-end h = rw (drop-of-length-le l h)

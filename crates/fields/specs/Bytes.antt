@@ -1,7 +1,9 @@
--- Bytes in lent buffers: a part of one, one laid over another, zeros.
+-- Bytes in lent buffers: a part of one, one laid over another, zeros, and whether all of one are zeros.
 -- Assumes nothing.
+use mathlib.Core.Bool.{Bool, true, _&&_}
 use mathlib.Core.List.{List, [], _∷_}
 use Prim.Native.Nat.{ℕ, zero, suc}
+use lib.Dec.{eqb}
 use lib.ListN.{take, drop}
 
 -- n bytes of l from i on
@@ -18,3 +20,7 @@ put (x ∷ xs) (suc i) bs = x ∷ put xs i bs
 unfoldable pub zeros : ℕ → List ℕ
 zeros zero = []
 zeros (suc n) = 0 ∷ zeros n
+
+unfoldable pub areZeros : List ℕ → Bool
+areZeros [] = true
+areZeros (x ∷ xs) = eqb x 0 && areZeros xs

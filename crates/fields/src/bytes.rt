@@ -1,4 +1,4 @@
-// Bytes in lent buffers: laid over, copied, cleared.
+// Bytes in lent buffers: laid over, copied, cleared, and whether they are zeros.
 ghost use mathlib.Core.Path.{_≡_};
 ghost use Prim.Native.Nat.{_≤_};
 ghost use lib.ListN.{length, take};
@@ -31,4 +31,16 @@ pub fn put(dst: &mut [u8], src: &[u8], n: usize)
     for i in 0..n {
         dst[i] = src[i];
     }
+}
+
+// Whether all are 0; the first that is not ends the search.
+pub fn are_zeros(bytes: &[u8]) -> bool
+    ensures { λ r. ⌜ r ≡ Bytes.areZeros (now (bytes .entry)) ⌝ }
+{
+    for i in 0..bytes.len() {
+        if bytes[i] != 0 {
+            return false;
+        }
+    }
+    true
 }

@@ -1,4 +1,4 @@
--- What a request says whose fields are right: at most 128 blocks where it is a READ or WRITE, one of the six types where it makes a reservation.
+-- What a request says whose fields are right: at most 128 blocks where it counts them, one of the six types where it makes a reservation.
 -- Assumes nothing.
 use mathlib.Core.Path.{_≡_, refl, sym, ap, _∙_, subst}
 use mathlib.Core.Bool.{Bool, true, false, not, _&&_, _||_, true≢false}
@@ -8,7 +8,7 @@ use native.Mathlib.Omega.{arith}
 use borrow.Author.Tests.{ltb-false}
 use lib.Dec.{T, eqb, eqb→eq, leb, ltb}
 use Rattle.fields.specs.Field.{byte, bit}
-use Rattle.fields.proofs.Tests.{and-l, and-r, or-other, not-not, not-not-intro, by-equal, false→T}
+use Rattle.fields.proofs.Tests.{and-l, and-r, nor-r, or-other, not-not, not-not-intro, test, by-equal, false→T, T-false}
 use Rattle.answers.specs.declared.Answer.the-variants.{Good}
 use Rattle.answers.specs.Answers.{invalidField}
 use Rattle.answers.specs.Order.{_if_, first, refuses}
@@ -16,11 +16,11 @@ use Rattle.answers.proofs.OrderLaws.{row-fails, rows-after}
 use Rattle.pool.specs.Bounds.{mostTransfer}
 use Rattle.rights.specs.Rights.{isType}
 use Rattle.rights.proofs.Keeping.{makes}
-use Rattle.forms.specs.declared.Move.the-variants.{Read, Write, Unmap}
+use Rattle.forms.specs.declared.Move.the-variants.{Read, Write, WriteSame, Unmap, Status}
 use Rattle.forms.specs.declared.Command.{Command}
 use Rattle.forms.specs.declared.Command.the-variants.{Tells, Moves, Alters}
 use Rattle.forms.specs.declared.Test.{Test}
-use Rattle.forms.specs.declared.Test.the-variants.{Nothing, VitalData, Page, Protection, Count, Anchor, Scope, Kind}
+use Rattle.forms.specs.declared.Test.the-variants.{Nothing, VitalData, Page, Protection, Count, Anchor, SameAnchor, SameCount, Scope, Kind}
 use Rattle.forms.specs.declared.Form.{Form}
 use Rattle.forms.specs.declared.Service.{Service}
 use Rattle.forms.specs.declared.Service.the-variants.{Served, Other}
@@ -65,8 +65,10 @@ testNumber Page = 2
 testNumber Protection = 3
 testNumber Count = 4
 testNumber Anchor = 5
-testNumber Scope = 6
-testNumber Kind = 7
+testNumber SameAnchor = 6
+testNumber SameCount = 7
+testNumber Scope = 8
+testNumber Kind = 9
 
 unfoldable testOf : ℕ → Test
 testOf zero = Nothing
@@ -75,8 +77,10 @@ testOf (suc (suc zero)) = Page
 testOf (suc (suc (suc zero))) = Protection
 testOf (suc (suc (suc (suc zero)))) = Count
 testOf (suc (suc (suc (suc (suc zero))))) = Anchor
-testOf (suc (suc (suc (suc (suc (suc zero)))))) = Scope
-testOf (suc (suc (suc (suc (suc (suc (suc n))))))) = Kind
+testOf (suc (suc (suc (suc (suc (suc zero)))))) = SameAnchor
+testOf (suc (suc (suc (suc (suc (suc (suc zero))))))) = SameCount
+testOf (suc (suc (suc (suc (suc (suc (suc (suc zero)))))))) = Scope
+testOf (suc (suc (suc (suc (suc (suc (suc (suc (suc n))))))))) = Kind
 
 test-back : (t : Test) → testOf (testNumber t) ≡ t
 unfolding testOf testNumber
@@ -86,6 +90,8 @@ test-back Page = refl
 test-back Protection = refl
 test-back Count = refl
 test-back Anchor = refl
+test-back SameAnchor = refl
+test-back SameCount = refl
 test-back Scope = refl
 test-back Kind = refl
 
@@ -100,8 +106,20 @@ unfoldable pub isTransfer : Command → Bool
 isTransfer (Tells t) = false
 isTransfer (Moves Read) = true
 isTransfer (Moves Write) = true
+isTransfer (Moves WriteSame) = false
 isTransfer (Moves Unmap) = false
+isTransfer (Moves Status) = false
 isTransfer (Alters a) = false
+
+-- commands that count blocks: READ and WRITE, and WRITE SAME
+unfoldable pub isCounted : Command → Bool
+isCounted (Tells t) = false
+isCounted (Moves Read) = true
+isCounted (Moves Write) = true
+isCounted (Moves WriteSame) = true
+isCounted (Moves Unmap) = false
+isCounted (Moves Status) = false
+isCounted (Alters a) = false
 
 -- commands that make a reservation
 unfoldable pub isMaker : Command → Bool
@@ -118,17 +136,25 @@ long-least long t =
 unfoldable pub ofThese : (Command → Bool) → (Form → Bool) → Form → Bool
 ofThese P Q f = not (P (f .command)) || Q f
 
--- READ and WRITE test byte 1 and then their count
+-- READ and WRITE test byte 1 and then their count, and nothing else
 unfoldable transferTests : Form → Bool
-transferTests f = sameTest (f .first) Protection && sameTest (f .second) Count
+transferTests f = sameTest (f .first) Protection && (sameTest (f .second) Count && sameTest (f .third) Nothing)
 
--- RESERVE and PREEMPT test their type last
+-- each command that counts blocks tests the count
+unfoldable countTests : Form → Bool
+countTests f = sameTest (f .second) Count || sameTest (f .third) SameCount
+
+-- RESERVE and PREEMPT test their type behind the scope
 unfoldable makerTests : Form → Bool
 makerTests f = sameTest (f .second) Kind
 
 transfer-rule : (cdb : List ℕ) → T (rowRule (ofThese isTransfer transferTests) (entryOf cdb))
 unfolding entryOf entryFor lines rowRule serviceRule ofThese isTransfer transferTests sameTest testNumber all obeys
 transfer-rule cdb = looked-up (λ _ e. rowRule (ofThese isTransfer transferTests) e) (byte 0 cdb) (action cdb) Unlisted lines tt tt
+
+count-rule : (cdb : List ℕ) → T (rowRule (ofThese isCounted countTests) (entryOf cdb))
+unfolding entryOf entryFor lines rowRule serviceRule ofThese isCounted countTests sameTest testNumber all obeys
+count-rule cdb = looked-up (λ _ e. rowRule (ofThese isCounted countTests) e) (byte 0 cdb) (action cdb) Unlisted lines tt tt
 
 maker-rule : (cdb : List ℕ) → T (rowRule (ofThese isMaker makerTests) (entryOf cdb))
 unfolding entryOf entryFor lines rowRule serviceRule ofThese isMaker makes makerTests sameTest testNumber all obeys
@@ -165,17 +191,24 @@ module _ (cdb : List ℕ) (r : Request) (w : Row (entryOf cdb) cdb r) where
 
     transfer-first : w .form .first ≡ Protection
     unfolding transferTests
-    transfer-first = same-test _ _ (and-l (sameTest (w .form .first) Protection) (sameTest (w .form .second) Count) transfer-tests)
+    transfer-first = same-test _ _ (and-l (sameTest (w .form .first) Protection) _ transfer-tests)
+
+    transfer-others : T (sameTest (w .form .second) Count && sameTest (w .form .third) Nothing)
+    unfolding transferTests
+    transfer-others = and-r (sameTest (w .form .first) Protection) _ transfer-tests
 
     transfer-second : w .form .second ≡ Count
-    unfolding transferTests
-    transfer-second = same-test _ _ (and-r (sameTest (w .form .first) Protection) (sameTest (w .form .second) Count) transfer-tests)
+    transfer-second = same-test _ _ (and-l (sameTest (w .form .second) Count) (sameTest (w .form .third) Nothing) transfer-others)
+
+    transfer-third : w .form .third ≡ Nothing
+    transfer-third = same-test _ _ (and-r (sameTest (w .form .second) Count) (sameTest (w .form .third) Nothing) transfer-others)
 
     -- all that can be wrong with the fields of a READ or WRITE
     pub transfer-fields : fieldRows (entryOf cdb) cdb
-        ≡ invalidField if bit 2 (byte (w .long - 1) cdb) ∷ invalidField if leb 32 (byte 1 cdb) ∷ invalidField if ltb mostTransfer (r .size) ∷ []
+        ≡ invalidField if bit 2 (byte (w .long - 1) cdb) ∷ invalidField if leb 32 (byte 1 cdb) ∷ invalidField if ltb mostTransfer (r .size)
+        ∷ invalidField if false ∷ []
     unfolding fieldRows codeFieldRows serviceRows testRows wrong
-    transfer-fields = ap (λ (e : Entry). fieldRows e cdb) (w .entry) ∙ rw (transfer-first, transfer-second, row-size)
+    transfer-fields = ap (λ (e : Entry). fieldRows e cdb) (w .entry) ∙ rw (transfer-first, transfer-second, transfer-third, row-size)
 
   maker-second : T (isMaker (r .command)) → w .form .second ≡ Kind
   unfolding makerTests
@@ -192,9 +225,17 @@ module _ (cdb : List ℕ) (r : Request) (w : Row (entryOf cdb) cdb r) where
     unfolding testRows refuses
     second-right = rw (← row-size) (row-fails invalidField _ _ tt (rows-after invalidField _ _ tt row-right))
 
-    row-fits : T (isTransfer (r .command)) → r .size ≤ mostTransfer
-    unfolding wrong
-    row-fits h = ltb-false _ _ (rw (transfer-second h) at second-right)
+    third-right : wrong (w .form .third) (r .size) cdb ≡ false
+    unfolding testRows refuses
+    third-right = rw (← row-size) (row-fails invalidField _ _ tt (rows-after invalidField _ _ tt (rows-after invalidField _ _ tt row-right)))
+
+    row-fits : T (isCounted (r .command)) → r .size ≤ mostTransfer
+    unfolding countTests wrong
+    row-fits h =
+        test (sameTest (w .form .second) Count)
+        (λ t. ltb-false _ _ (rw (same-test _ _ t) at second-right))
+        (λ t. ltb-false _ _ (T-false _ (nor-r (eqb (r .size) 0) _ (false→T _
+        (rw (same-test _ _ (or-other (sameTest (w .form .second) Count) _ t (row-obeys isCounted countTests (count-rule cdb) h))) at third-right)))))
 
     row-typed : T (isMaker (r .command)) → T (isType (r .kind))
     unfolding wrong
@@ -202,9 +243,9 @@ module _ (cdb : List ℕ) (r : Request) (w : Row (entryOf cdb) cdb r) where
 
 -- ---- of what a CDB asks for
 
--- at most 128 blocks, where it is a READ or WRITE
+-- at most 128 blocks, where it counts them
 abbrev pub Fits : Request → Type 0
-Fits r = T (isTransfer (r .command)) → r .size ≤ mostTransfer
+Fits r = T (isCounted (r .command)) → r .size ≤ mostTransfer
 
 -- one of the six types, where it makes a reservation
 abbrev pub Typed : Request → Type 0

@@ -9,7 +9,7 @@ use Rattle.rights.specs.declared.Action.{Action}
 use Rattle.rights.specs.declared.Action.the-variants.{Register, Reserve, Release, Clear, Preempt, RegisterIgnoring}
 use Rattle.forms.specs.declared.Tell.the-variants.{Ready, Inquiry, Capacity10, Capacity16, Keys, Reservation}
 use Rattle.forms.specs.declared.Move.{Move}
-use Rattle.forms.specs.declared.Move.the-variants.{Read, Write, Unmap}
+use Rattle.forms.specs.declared.Move.the-variants.{Read, Write, WriteSame, Unmap, Status}
 use Rattle.forms.specs.declared.Command.{Command}
 use Rattle.forms.specs.declared.Command.the-variants.{Tells, Moves, Alters}
 use Rattle.forms.specs.declared.Field.{Field}
@@ -17,7 +17,7 @@ use Rattle.forms.specs.declared.Field.the-variants.{Two, Four, Eight}
 use Rattle.forms.specs.declared.Span.{Span}
 use Rattle.forms.specs.declared.Span.the-variants.{Absent, At}
 use Rattle.forms.specs.declared.Test.{Test}
-use Rattle.forms.specs.declared.Test.the-variants.{Nothing, VitalData, Page, Protection, Count, Anchor, Scope, Kind}
+use Rattle.forms.specs.declared.Test.the-variants.{Nothing, VitalData, Page, Protection, Count, Anchor, SameAnchor, SameCount, Scope, Kind}
 use Rattle.forms.specs.declared.Form.{Form}
 use Rattle.forms.specs.declared.Service.{Service}
 use Rattle.forms.specs.declared.Service.the-variants.{Served, Other}
@@ -25,9 +25,13 @@ use Rattle.forms.specs.declared.Entry.{Entry}
 use Rattle.forms.specs.declared.Entry.the-variants.{Listed, Unlisted}
 use Rattle.forms.specs.declared.Request.{Request}
 
+abbrev pub formOf : Command → Span → Span → Test → Test → Test → Form
+formOf command address size first second third =
+    record { command = command; address = address; size = size; first = first; second = second; third = third }
+
+-- most have no third field that can be wrong
 abbrev pub form : Command → Span → Span → Test → Test → Form
-form command address size first second =
-    record { command = command; address = address; size = size; first = first; second = second }
+form command address size first second = formOf command address size first second Nothing
 
 -- a number of so many bytes, from a byte of the CDB on
 abbrev pub two : ℕ → Span
@@ -69,7 +73,8 @@ abbrev pub out : Action → Test → Test → Form
 out a first second = form (Alters a) Absent (four 5) first second
 
 -- "Each operation code has its own row of fields": "6, 10 or 16 as its code has it", the command, the block address, the count, allocation
--- length or list length, and the fields that can be wrong
+-- length or list length, and the fields that can be wrong. Q-1: "Add WRITE SAME(16) (93h: address 2-9, count 10-13, …) and GET LBA STATUS
+-- (9Eh, action 12h)"
 unfoldable pub lines : List Line
 lines =
     line 0x00 any 6 (form (Tells Ready) Absent Absent Nothing Nothing)
@@ -88,7 +93,9 @@ lines =
     ∷ line 0x5F (only 6) 10 (out RegisterIgnoring Nothing Nothing)
     ∷ line 0x88 any 16 (form (Moves Read) (eight 2) (four 10) Protection Count)
     ∷ line 0x8A any 16 (form (Moves Write) (eight 2) (four 10) Protection Count)
+    ∷ line 0x93 any 16 (formOf (Moves WriteSame) (eight 2) (four 10) Protection SameAnchor SameCount)
     ∷ line 0x9E (only 0x10) 16 (form (Tells Capacity16) Absent (four 10) Nothing Nothing)
+    ∷ line 0x9E (only 0x12) 16 (form (Moves Status) (eight 2) (four 10) Nothing Nothing)
     ∷ []
 
 -- ---- what the table has for a code and a service action
@@ -123,13 +130,14 @@ unfoldable pub number : Span → List ℕ → ℕ
 number Absent cdb = 0
 number (At f) cdb = fieldNumber f cdb
 
--- "Byte 2: scope high half, type low half"
+-- "Byte 2: scope high half, type low half"; Q-1: "byte 1 bits … 3 UNMAP, 0 NDOB"
 unfoldable pub requestBy : Form → List ℕ → Request
 requestBy f cdb = record {
   command = f .command;
   address = record { 0 = number (f .address) cdb };
   size = number (f .size) cdb;
   kind = byte 2 cdb % 16;
+  options = byte 1 cdb;
 }
 
 -- what is asked for: a request, or nothing that the table serves
@@ -148,11 +156,11 @@ askedIn Unlisted cdb = nothing
 unfoldable pub askedOf : List ℕ → Asked
 askedOf cdb = askedIn (entryOf cdb) cdb
 
--- the number that says how much has a name for each of its three uses: of READ and WRITE, the count of blocks
+-- the number that says how much has a name for each of its three uses: of READ, WRITE and WRITE SAME, the count of blocks
 abbrev pub countIn : Request → ℕ
 countIn r = r .size
 
--- of commands that tell, the allocation length
+-- of commands that tell and GET LBA STATUS, the allocation length
 abbrev pub allocationIn : Request → ℕ
 allocationIn r = r .size
 

@@ -1,6 +1,6 @@
 -- The tests of a CDB by itself, in three stages: "Then 1. Then 11 again …. Then 2: …"
 -- Assumes nothing.
-use mathlib.Core.Bool.{Bool, true, false, not}
+use mathlib.Core.Bool.{Bool, true, false, not, _||_}
 use mathlib.Core.List.{List, [], _∷_}
 use Prim.Native.Nat.{ℕ, _-_, _%_}
 use lib.Dec.{eqb, leb, ltb}
@@ -12,7 +12,7 @@ use Rattle.answers.specs.Order.{Row, _if_}
 use Rattle.pool.specs.Bounds.{mostTransfer}
 use Rattle.rights.specs.Rights.{isType}
 use Rattle.forms.specs.declared.Test.{Test}
-use Rattle.forms.specs.declared.Test.the-variants.{Nothing, VitalData, Page, Protection, Count, Anchor, Scope, Kind}
+use Rattle.forms.specs.declared.Test.the-variants.{Nothing, VitalData, Page, Protection, Count, Anchor, SameAnchor, SameCount, Scope, Kind}
 use Rattle.forms.specs.declared.Form.{Form}
 use Rattle.forms.specs.declared.Service.{Service}
 use Rattle.forms.specs.declared.Service.the-variants.{Served, Other}
@@ -51,6 +51,9 @@ wrong Protection n cdb = leb 32 (byte 1 cdb)
 wrong Count n cdb = ltb mostTransfer n
 -- UNMAP: "byte 1 bit 0 (ANCHOR) set: 2"
 wrong Anchor n cdb = bit 0 (byte 1 cdb)
+-- WRITE SAME, by Q-1: "Count 0 or above 128, WRPROTECT or ANCHOR: 2."; its WRPROTECT is where READ and WRITE have theirs
+wrong SameAnchor n cdb = bit 4 (byte 1 cdb)
+wrong SameCount n cdb = eqb n 0 || ltb mostTransfer n
 -- "for 1, 2, 4 (4 always, stricter than SPC) a scope not 0 or a type outside the six: 2"
 wrong Scope n cdb = leb 16 (byte 2 cdb)
 wrong Kind n cdb = not (isType (byte 2 cdb % 16))
@@ -60,6 +63,7 @@ unfoldable pub testRows : Form → List ℕ → List Row
 testRows f cdb =
     invalidField if wrong (f .first) (number (f .size) cdb) cdb
     ∷ invalidField if wrong (f .second) (number (f .size) cdb) cdb
+    ∷ invalidField if wrong (f .third) (number (f .size) cdb) cdb
     ∷ []
 
 -- "others 2"

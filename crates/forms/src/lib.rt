@@ -13,11 +13,13 @@ pub enum Tell {
     Reservation,
 }
 
-// Commands on the blocks, guarded by the reservation.
+// Commands on the blocks and their map, guarded by the reservation.
 pub enum Move {
     Read,
     Write,
+    WriteSame,
     Unmap,
+    Status,
 }
 
 // What a command is: one that tells, one that moves blocks, or one that alters the rights.
@@ -48,6 +50,8 @@ pub enum Test {
     Protection,
     Count,
     Anchor,
+    SameAnchor,
+    SameCount,
     Scope,
     Kind,
 }
@@ -60,6 +64,7 @@ pub struct Form {
     pub size: Span,
     pub first: Test,
     pub second: Test,
+    pub third: Test,
 }
 
 // A service action of a listed code: it has a row, or it is not listed.
@@ -80,10 +85,12 @@ pub enum Entry {
     Unlisted,
 }
 
-// What a CDB asks for: the command, its block address, its count, allocation length or list length, and the type of reservation it names.
+// What a CDB asks for: the command, its block address, its count, allocation length or list length, the type of reservation it names, and
+// the byte whose bits say how WRITE SAME is meant.
 pub struct Request {
     pub command: Command,
     pub address: Lba,
     pub size: u64,
     pub kind: u32,
+    pub options: u8,
 }

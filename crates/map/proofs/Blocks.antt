@@ -10,7 +10,7 @@ use native.Mathlib.Nat.{add-zero}
 use native.Mathlib.Numerals.{add-one}
 use lib.Dec.{T, ltb, ltb→lt, nltb→le}
 use lib.ListN.{length, getD, take, drop, set, length-append, length-set, drop-of-length-le}
-use lib.Seq.{drop-cons, drop-drop, length-take-le, take-suc, take-set-lt}
+use lib.Seq.{drop-cons, drop-drop, getD-take, length-take-le, take-suc, take-set-lt}
 use borrow.Author.Tests.{ne-eqb, lt-ltb, le-ltb}
 use borrow.Rule.Slice.PartMut.{putMid, post-is}
 use Rattle.fields.specs.Bytes.{part, put, zeros}
@@ -109,21 +109,37 @@ module _ (m : List ℕ) (slots : ℕ) where
 pub put-start : (is m bs : List ℕ) → putPlaces (drop 0 is) m (drop (blockBytes * 0) bs) ≡ putPlaces is m bs
 put-start is m bs = refl
 
-module _ (is m bs : List ℕ) (k : ℕ) where
-  pub put-turn : k < length is
-      → putPlaces (drop k is) m (drop (blockBytes * k) bs)
-      ≡ putPlaces (drop (k + 1) is) (put m (blockBytes * getD is k 0) (part bs (blockBytes * k) blockBytes)) (drop (blockBytes * (k + 1)) bs)
-  unfolding putPlaces part
-  put-turn h =
-      let q : blockBytes * k + blockBytes ≡ blockBytes * (k + 1) = omega arith in
-      let m′ = put m (blockBytes * getD is k 0) (take blockBytes (drop (blockBytes * k) bs)) in
-      ap (λ (l : List ℕ). putPlaces l m (drop (blockBytes * k) bs)) (drop-cons is k 0 h)
-      ∙ ap (putPlaces (drop (suc k) is) m′) (drop-drop blockBytes (blockBytes * k) bs ∙ ap (λ (n : ℕ). drop n bs) q)
-      ∙ ap (λ (n : ℕ). putPlaces (drop n is) m′ (drop (blockBytes * (k + 1)) bs)) (sym (add-one k))
+put-next-place : (is m bs : List ℕ) (k : ℕ) → k < length is
+    → putPlaces (drop k is) m (drop (blockBytes * k) bs)
+    ≡ putPlaces (drop (k + 1) is) (put m (blockBytes * getD is k 0) (part bs (blockBytes * k) blockBytes)) (drop (blockBytes * (k + 1)) bs)
+unfolding putPlaces part
+put-next-place is m bs k h =
+    let q : blockBytes * k + blockBytes ≡ blockBytes * (k + 1) = omega arith in
+    let m′ = put m (blockBytes * getD is k 0) (take blockBytes (drop (blockBytes * k) bs)) in
+    ap (λ (l : List ℕ). putPlaces l m (drop (blockBytes * k) bs)) (drop-cons is k 0 h)
+    ∙ ap (putPlaces (drop (suc k) is) m′) (drop-drop blockBytes (blockBytes * k) bs ∙ ap (λ (n : ℕ). drop n bs) q)
+    ∙ ap (λ (n : ℕ). putPlaces (drop n is) m′ (drop (blockBytes * (k + 1)) bs)) (sym (add-one k))
 
-  pub put-end : length is ≤ k → putPlaces (drop k is) m (drop (blockBytes * k) bs) ≡ m
+module _ (index m bs : List ℕ) (n k : ℕ) (long : n ≤ length index) where
+  -- a turn: the bytes of block k, wherever they are copied from, come to its place
+  pub put-turn : (b : List ℕ) → k < n → blockBytes * getD index k 0 + blockBytes ≤ length m → length b ≡ blockBytes
+      → b ≡ part bs (blockBytes * k) blockBytes
+      → putPlaces (drop (k + 1) (take n index)) (putMid (blockBytes * getD index k 0) (blockBytes * getD index k 0 + blockBytes - blockBytes * getD index k 0) m b) (drop (blockBytes * (k + 1)) bs)
+      ≡ putPlaces (drop k (take n index)) m (drop (blockBytes * k) bs)
+  put-turn b h f l e =
+      let is = take n index in
+      let at : getD is k 0 ≡ getD index k 0 = getD-take n index k 0 h in
+      let w : k < length is = rw (length-take-le n index long) h in
+      ap (λ (z : List ℕ). putPlaces (drop (k + 1) is) z (drop (blockBytes * (k + 1)) bs))
+      (lent-back m b (blockBytes * getD index k 0) blockBytes l f ∙ rw (at, ← e))
+      ∙ sym (put-next-place is m bs k w)
+
+  pub put-end : n ≤ k → putPlaces (drop k (take n index)) m (drop (blockBytes * k) bs) ≡ m
   unfolding putPlaces
-  put-end h = ap (λ (l : List ℕ). putPlaces l m (drop (blockBytes * k) bs)) (drop-of-length-le is h)
+  put-end h =
+      let l = length-take-le n index long in
+      let w : length (take n index) ≤ k = omega arith in
+      ap (λ (is : List ℕ). putPlaces is m (drop (blockBytes * k) bs)) (drop-of-length-le (take n index) w)
 
 putPlaces-is : (o : List ℕ) (a n : ℕ) (m bs : List ℕ) → putPlaces (places o a n) m bs ≡ putBlocks o m a n bs
 unfolding putPlaces putBlocks places

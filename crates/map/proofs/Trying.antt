@@ -6,12 +6,14 @@ use mathlib.Core.List.{List}
 use Prim.Native.Nat.{ℕ, _<_, _≤_}
 use native.Mathlib.Omega.{arith}
 use lib.Dec.{leb→le}
+use lib.ListN.{length, getD, take}
 use borrow.Author.Tests.{le-leb, lt-leb}
 use Rattle.fields.proofs.Tests.{true→T}
+use Rattle.pool.specs.Bounds.{mostTransfer}
 use Rattle.pool.specs.Pool.{Pool, pool, free, unmapped, assignBlocks, putBlocks, writeBlocks, roomFor}
-use Rattle.map.specs.Index.{Indexed}
+use Rattle.map.specs.Index.{Indexed, putPlaces}
 use Rattle.map.specs.Write.{Gave, Written, written, tryWrite}
-use Rattle.map.proofs.Blocks.{assign-nothing}
+use Rattle.map.proofs.Blocks.{assign-nothing, put-indexed, given-below}
 
 -- ---- slots for all blocks of a range or for none
 
@@ -30,15 +32,22 @@ module _ (o : List ℕ) (a n : ℕ) where
   gave-none index h = record { room = sym (lt-leb _ _ h); given = refl; indexed = λ q. let z : _≡_ {A = ℕ} 0 1 = cc in absurd (omega arith) }
 
   module _ (done : Bool) (after index : List ℕ) (g : Gave o a n done after index) (e : done ≡ true) where
-    pub gave-room : unmapped o a n ≤ free o
+    gave-room : unmapped o a n ≤ free o
     unfolding roomFor
     gave-room = leb→le _ _ (true→T _ (sym (g .room) ∙ e))
 
-    pub gave-assigned : after ≡ assignBlocks o a n
+    gave-assigned : after ≡ assignBlocks o a n
     gave-assigned = g .given ∙ rw e
 
-    pub gave-index : Indexed (assignBlocks o a n) a n index
+    gave-index : Indexed (assignBlocks o a n) a n index
     gave-index = rw gave-assigned at (g .indexed e)
+
+    pub gave-size : length index ≡ mostTransfer
+    gave-size = gave-index .size
+
+    -- every block of the range has a slot
+    pub gave-below : (k : ℕ) → k < n → getD index k 0 < length o
+    gave-below k h = given-below o index a n k gave-room gave-index h
 
 -- ---- the write
 
@@ -48,10 +57,14 @@ module _ (p : Pool) (a n : ℕ) (bs : List ℕ) where
     unfolding tryWrite
     try-full e = let f : owners ≡ p .owners = g .given ∙ rw e in rw (← g .room, e, f)
 
-    pub try-done : (medium : List ℕ) → done ≡ true → medium ≡ putBlocks (assignBlocks (p .owners) a n) (p .medium) a n bs
+    -- the bytes are put by the index that the slots completed
+    pub try-done : (medium : List ℕ) → done ≡ true → medium ≡ putPlaces (take n index) (p .medium) bs
         → written true owners medium ≡ tryWrite p a n bs
     unfolding tryWrite writeBlocks
-    try-done medium e f = rw (← g .room, e, gave-assigned (p .owners) a n done owners index g e, f)
+    try-done medium e f =
+        let x = gave-index (p .owners) a n done owners index g e in
+        let q : medium ≡ putBlocks (assignBlocks (p .owners) a n) (p .medium) a n bs = f ∙ put-indexed (assignBlocks (p .owners) a n) index a n (p .medium) bs x in
+        rw (← g .room, e, gave-assigned (p .owners) a n done owners index g e, q)
 
   module _ (done : Bool) (owners medium : List ℕ) (e : written done owners medium ≡ tryWrite p a n bs) where
     pub tried : roomFor (p .owners) a n ≡ done

@@ -3,6 +3,7 @@ ghost use mathlib.Core.Path.{_≡_};
 ghost use Prim.Native.Nat.{_+_, _≤_};
 ghost use Rattle.pool.specs.Bounds.{mostBlocks};
 ghost use Rattle.pool.specs.Pool.{freed, unmapOwners};
+use crate::slots;
 use pool::Lba;
 
 // The owner number of a slot once the range is unmapped.
@@ -10,12 +11,8 @@ fn kept(x: u64, lba: Lba, count: u64) -> u64
     requires { ⌜ lba .0 + count ≤ mostBlocks ⌝ }
     ensures { λ r. ⌜ r ≡ freed (lba .0) count x ⌝ }
 {
-    let a = lba.0;
-    let end = a + count;
-    if x <= a {
-        return x;
-    }
-    if x <= end { 0 } else { x }
+    let first = lba.0 + 1;
+    if slots::above(x, first) < count { 0 } else { x }
 }
 
 // The slots of the range are freed; their bytes stay. The bound keeps the range's end from wrapping.

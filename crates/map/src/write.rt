@@ -3,7 +3,7 @@ ghost use mathlib.Core.Path.{_≡_};
 ghost use Prim.Native.Nat.{ℕ, _+_, _*_, _<_, _≤_};
 ghost use lib.ListN.{length, getD, take};
 ghost use Rattle.pool.specs.Bounds.{mostBlocks, mostSlots, mostTransfer, blockBytes};
-ghost use Rattle.pool.specs.Pool.{pool, place, free, unmapped, assignBlocks};
+ghost use Rattle.pool.specs.Pool.{pool, place, free, unmapped, assignBlocks, copies};
 ghost use Rattle.map.specs.Index.{Indexed, putPlaces};
 ghost use Rattle.map.specs.Write.{Gave, written, tryWrite};
 use crate::index;
@@ -79,6 +79,25 @@ fn put_blocks(medium: &mut [u8], index: &[usize], slots: usize, count: usize, by
     }
 }
 
+// One block's bytes go to each place.
+fn put_same(medium: &mut [u8], index: &[usize], slots: usize, count: usize, block: &[u8])
+    requires { ⌜ (count ≤ mostTransfer)
+        × (slots ≤ mostSlots)
+        × (count ≤ length (now index))
+        × (length (now medium) ≡ blockBytes * slots)
+        × (length (now block) ≡ blockBytes)
+        × ((k : ℕ) → k < count → getD (now index) k 0 < slots) ⌝ }
+    ensures { λ _. ⌜ now (medium .exit)
+        ≡ putPlaces (take count (now (index .entry))) (now (medium .entry)) (copies count (now (block .entry))) ⌝ }
+{
+    for k in 0..count {
+        let place = index[k];
+        let at = BLOCK_BYTES * place;
+        let end = at + BLOCK_BYTES;
+        bytes::copy(&mut medium[at..end], block);
+    }
+}
+
 // All of a write or nothing of it, and whether it was done. The bounds are what the caller has tested of its call, as for a read.
 pub fn write_blocks(
     owners: &mut [u64],
@@ -101,5 +120,30 @@ pub fn write_blocks(
         return false;
     }
     put_blocks(medium, &index, slots, count, bytes);
+    true
+}
+
+// All of a write of one block for the whole range or nothing of it, and whether it was done. The bounds are those of any write.
+pub fn write_same(
+    owners: &mut [u64],
+    medium: &mut [u8],
+    lba: Lba,
+    count: usize,
+    block: &[u8],
+) -> bool
+    requires { ⌜ (count ≤ mostTransfer)
+        × (lba .0 + count ≤ mostBlocks)
+        × (length (now owners) ≤ mostSlots)
+        × (length (now medium) ≡ blockBytes * length (now owners))
+        × (length (now block) ≡ blockBytes) ⌝ }
+    ensures { λ r. ⌜ written r (now (owners .exit)) (now (medium .exit))
+        ≡ tryWrite (pool (now (owners .entry)) (now (medium .entry))) (lba .0) count (copies count (now (block .entry))) ⌝ }
+{
+    let mut index = index::index_of(owners, lba, count);
+    let slots = owners.len();
+    if !give_slots(owners, &mut index, lba, count) {
+        return false;
+    }
+    put_same(medium, &index, slots, count, block);
     true
 }

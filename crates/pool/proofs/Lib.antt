@@ -3,5 +3,6 @@ pub mod Keeping
 pub mod Writing
 pub mod Unmapping
 pub mod Reading
+pub mod Copies
 pub mod Clashes
 pub mod Alike

@@ -2,13 +2,14 @@
 -- An owner number x names none of the n blocks from a on where `a < x → a + n < x`.
 -- Assumes nothing.
 use mathlib.Core.Path.{_≡_, refl, ap}
-use mathlib.Core.Bool.{Bool, false, not, _||_, cond}
+use mathlib.Core.Bool.{Bool, true, false, not, _||_, cond}
 use mathlib.Core.List.{List, [], _∷_, map}
 use mathlib.Core.Logic.{_≢_}
 use Prim.Native.Nat.{ℕ, zero, suc, _+_, _≤_, _<_}
 use native.Mathlib.Omega.{arith}
 use borrow.Author.Tests.{ne-eqb}
 use lib.Dec.{T, eqb}
+use lib.ListN.{length}
 use Rattle.fields.proofs.Tests.{by-equal, T-false}
 use Rattle.pool.specs.Pool.{place, has, mapped, free, unmapped, freed, unmapOwners}
 use Rattle.pool.specs.Valid.{distinct}
@@ -89,3 +90,22 @@ free-unmap (y ∷ ys) a n t =
     freed-ways a n y (λ z. cond (eqb z 0) 1 0 + free (map (freed a n) ys) + unmapped (y ∷ ys) a n ≡ cond (eqb y 0) 1 0 + free ys + n)
     (λ h k. let e = unmapped-one y ys a n h k (distinct-head y ys t (omega arith)) in rw (ne-eqb y 0 (omega arith)) (omega arith))
     (λ out. let e = unmapped-other y ys a n out in omega arith)
+
+-- ---- no more blocks are mapped than there are slots, whether or not two of these name one block
+
+-- a slot more maps one block more at most
+unmapped-slot : (y : ℕ) (ys : List ℕ) (a n : ℕ) → unmapped ys a n ≤ suc (unmapped (y ∷ ys) a n)
+unfolding unmapped mapped has
+unmapped-slot y ys a zero = omega arith
+unmapped-slot y ys a (suc n) =
+    by-equal y (suc a) (λ q. cond (has (suc a) ys) 0 1 + unmapped ys (suc a) n ≤ suc (cond (q || has (suc a) ys) 0 1 + unmapped (y ∷ ys) (suc a) n))
+    (λ e. let d = unmapped-other y ys (suc a) n (λ u. absurd (omega arith)) in let h = missing-most (has (suc a) ys) in omega arith)
+    (λ e. let ih = unmapped-slot y ys (suc a) n in omega arith)
+  where
+    missing-most : (b : Bool) → cond b 0 1 ≤ 1
+    missing-most true = omega arith
+    missing-most false = omega arith
+
+pub mapped-most : (owners : List ℕ) (a n : ℕ) → n ≤ unmapped owners a n + length owners
+mapped-most [] a n = let e = unmapped-none a n in omega arith
+mapped-most (y ∷ ys) a n = let ih = mapped-most ys a n in let h = unmapped-slot y ys a n in omega arith

@@ -14,6 +14,6 @@ mostSlots = 128
 abbrev pub blockBytes : ℕ
 blockBytes = 512
 
--- "blocks in one READ or WRITE | 128"
+-- "blocks in one READ or WRITE | 128"; by Q-1 in one WRITE SAME too
 abbrev pub mostTransfer : ℕ
 mostTransfer = 128

@@ -86,6 +86,11 @@ unfoldable pub writeBlocks : Pool → ℕ → ℕ → List ℕ → Pool
 writeBlocks p a n bs =
     withMedium (withOwners p (assignBlocks (p .owners) a n)) (putBlocks (assignBlocks (p .owners) a n) (p .medium) a n bs)
 
+-- Q-1: "Repeated pattern": one block n times over
+unfoldable pub copies : ℕ → List ℕ → List ℕ
+copies zero block = []
+copies (suc n) block = block ++ copies n block
+
 -- there is room unless there are "more unmapped blocks in a write than free slots"
 unfoldable pub roomFor : List ℕ → ℕ → ℕ → Bool
 roomFor owners a n = leb (unmapped owners a n) (free owners)

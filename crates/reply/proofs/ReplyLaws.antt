@@ -12,7 +12,7 @@ use Rattle.answers.specs.declared.Answer.the-variants.{Good, Refused, Conflict,
 use Rattle.answers.specs.Order.{ifGood, ifGoodBy, refuses}
 use Rattle.answers.proofs.OrderLaws.{if-same}
 use Rattle.store.specs.Store.{Store, leaves}
-use Rattle.reply.specs.Reply.{Replied, replyOf, Left, leaving, settles, Served, serves}
+use Rattle.reply.specs.Reply.{Replied, replyOf, leaving, settles, Served, serves}
 
 abbrev pub plain : Answer → List ℕ → Replied
 plain a dataIn = record { answer = a; returned = 0; dataIn = dataIn }
@@ -81,9 +81,3 @@ serves-part whole (Refused x) done kept dataIn = refl
 serves-part whole Conflict done kept dataIn = refl
 serves-part whole Unusable done kept dataIn = refl
 serves-part whole Short done kept dataIn = refl
-
-pub serves-settled : {A : Type 0} (whole : A → Store) (a r : Answer) (done kept after : A) (dataIn : List ℕ) → leaving r after ≡ settles a done kept
-    → serving (plain r dataIn) (whole after) ≡ serves a [] (whole done) (whole kept) dataIn
-unfolding settles
-serves-settled {A} whole a r done kept after dataIn e =
-    ap (λ (w : Left A). serving (plain (w .answer) dataIn) (whole (w .after))) e ∙ serves-part whole a done kept dataIn

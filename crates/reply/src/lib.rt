@@ -1,6 +1,8 @@
-// What a command leaves beside the lent buffers. No code: the types stand here, what contracts say of them in specs/, their laws in proofs/.
+// What a command leaves beside the lent buffers: the types stand here, what contracts say of them in specs/, their laws in proofs/.
 use answers::Answer;
 use store::Unit;
+
+pub mod cut;
 
 // What a command that returns bytes leaves.
 pub struct Reply {

@@ -16,7 +16,7 @@ use Rattle.rights.proofs.Types.{sixTypes, every, every-one, agreesUnder, agree-
 use Rattle.forms.specs.declared.Tell.{Tell}
 use Rattle.forms.specs.declared.Tell.the-variants.{Ready, Inquiry, Capacity10, Capacity16, Keys, Reservation}
 use Rattle.forms.specs.declared.Move.{Move}
-use Rattle.forms.specs.declared.Move.the-variants.{Read, Write, Unmap}
+use Rattle.forms.specs.declared.Move.the-variants.{Read, Write, WriteSame, Unmap, Status}
 use Rattle.forms.specs.declared.Command.{Command}
 use Rattle.forms.specs.declared.Command.the-variants.{Tells, Moves, Alters}
 use Rattle.store.specs.declared.Column.{Column}
@@ -24,18 +24,21 @@ use Rattle.store.specs.declared.Column.the-variants.{Free, At}
 use Rattle.store.specs.Conflict.{columnUnder, columnOf, row, says, conflict, shutOut, passes, stops, ruled}
 
 -- what holds of each row holds of every command
-pub by-row : (P : Command → Type 0) → P (Tells Inquiry) → P (Tells Keys) → P (Tells Reservation) → ((a : Action) → P (Alters a)) → P (Moves Read)
-    → P (Tells Capacity10) → P (Tells Capacity16) → P (Tells Ready) → P (Moves Unmap) → P (Moves Write) → (k : Command) → P k
-by-row P i k r out read c10 c16 t u w (Tells Inquiry) = i
-by-row P i k r out read c10 c16 t u w (Tells Keys) = k
-by-row P i k r out read c10 c16 t u w (Tells Reservation) = r
-by-row P i k r out read c10 c16 t u w (Alters a) = out a
-by-row P i k r out read c10 c16 t u w (Moves Read) = read
-by-row P i k r out read c10 c16 t u w (Tells Capacity10) = c10
-by-row P i k r out read c10 c16 t u w (Tells Capacity16) = c16
-by-row P i k r out read c10 c16 t u w (Tells Ready) = t
-by-row P i k r out read c10 c16 t u w (Moves Unmap) = u
-by-row P i k r out read c10 c16 t u w (Moves Write) = w
+pub by-row : (P : Command → Type 0) → P (Moves Status) → P (Tells Inquiry) → P (Tells Keys) → P (Tells Reservation)
+    → ((a : Action) → P (Alters a)) → P (Moves Read) → P (Tells Capacity10) → P (Tells Capacity16) → P (Tells Ready) → P (Moves Unmap)
+    → P (Moves Write) → P (Moves WriteSame) → (k : Command) → P k
+by-row P s i k r out read c10 c16 t u w ws (Moves Status) = s
+by-row P s i k r out read c10 c16 t u w ws (Tells Inquiry) = i
+by-row P s i k r out read c10 c16 t u w ws (Tells Keys) = k
+by-row P s i k r out read c10 c16 t u w ws (Tells Reservation) = r
+by-row P s i k r out read c10 c16 t u w ws (Alters a) = out a
+by-row P s i k r out read c10 c16 t u w ws (Moves Read) = read
+by-row P s i k r out read c10 c16 t u w ws (Tells Capacity10) = c10
+by-row P s i k r out read c10 c16 t u w ws (Tells Capacity16) = c16
+by-row P s i k r out read c10 c16 t u w ws (Tells Ready) = t
+by-row P s i k r out read c10 c16 t u w ws (Moves Unmap) = u
+by-row P s i k r out read c10 c16 t u w ws (Moves Write) = w
+by-row P s i k r out read c10 c16 t u w ws (Moves WriteSame) = ws
 
 -- ---- the table and the rule, by the type, whether the holder field names the sender, and whether the sender is registered
 
@@ -53,7 +56,7 @@ ruleBy k kind named known = stops kind k && not (holdsBy kind named known || (is
 row-agrees : (k : Command) → T (every (agreesUnder (tableBy k) (ruleBy k)) sixTypes)
 unfolding every agreesUnder agree tableBy ruleBy holdsBy isOneOf oneHolds allHold isType stops columnUnder row says
 row-agrees =
-    by-row (λ k. T (every (agreesUnder (tableBy k) (ruleBy k)) sixTypes)) tt tt tt (λ _. tt) tt tt tt tt tt tt
+    by-row (λ k. T (every (agreesUnder (tableBy k) (ruleBy k)) sixTypes)) tt tt tt tt (λ _. tt) tt tt tt tt tt tt tt
 
 typed : (k : Command) (kind : ℕ) (named known : Bool) → T (isType kind) → tableBy k kind named known ≡ ruleBy k kind named known
 unfolding isType
@@ -75,6 +78,8 @@ module _ (kind : ℕ) (none : T (not (isType kind))) where
   none-stopped (Moves Read) = simp (other 3 tt, other 6 tt, other 8 tt)
   none-stopped (Moves Write) = T-false (isType kind) none
   none-stopped (Moves Unmap) = T-false (isType kind) none
+  none-stopped (Moves WriteSame) = T-false (isType kind) none
+  none-stopped (Moves Status) = simp (other 3 tt, other 6 tt, other 8 tt)
   none-stopped (Alters a) = refl
 
   untyped : (k : Command) (named known : Bool) → tableBy k kind named known ≡ ruleBy k kind named known
@@ -121,12 +126,14 @@ module _ (r : Rights) (n : ℕ) (k : Command) where
   unfolding ruled passes
   outsider-stopped e h = table-rule r n k ∙ rw (e, h, and-false, and-true)
 
--- where READ conflicts, so do WRITE and UNMAP
+-- where READ conflicts, so does every command on the blocks
 reads-least : (kind : ℕ) (m : Move) → T (stops kind (Moves Read)) → T (stops kind (Moves m))
 unfolding stops every isType isOneOf
 reads-least kind Read t = t
 reads-least kind Write t = every-one isType kind (3 ∷ 6 ∷ 8 ∷ []) tt t
 reads-least kind Unmap t = every-one isType kind (3 ∷ 6 ∷ 8 ∷ []) tt t
+reads-least kind WriteSame t = every-one isType kind (3 ∷ 6 ∷ 8 ∷ []) tt t
+reads-least kind Status t = t
 
 pub shut-moves : (r : Rights) (n : ℕ) (m : Move) → T (shutOut r n) → T (conflict r n (Moves m))
 unfolding shutOut ruled
@@ -158,4 +165,4 @@ column-listed r n column e = ltb→lt column 5 (subst (λ (x : Column). T (insid
 
 pub row-whole : (k : Command) → length (row k) ≡ 5
 unfolding row
-row-whole = by-row (λ k. length (row k) ≡ 5) refl refl refl (λ _. refl) refl refl refl refl refl refl
+row-whole = by-row (λ k. length (row k) ≡ 5) refl refl refl refl (λ _. refl) refl refl refl refl refl refl refl

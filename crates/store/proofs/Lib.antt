@@ -3,3 +3,4 @@ pub mod Parts
 pub mod StoreLaws
 pub mod MoveLaws
 pub mod Returned
+pub mod SameLaws

@@ -14,14 +14,14 @@ use Rattle.answers.specs.declared.Answer.the-variants.{Good, Refused, Conflict,
 use Rattle.answers.specs.Order.{first, ifGood, ifGoodBy, refuses}
 use Rattle.answers.proofs.OrderLaws.{row-fails, rows-after}
 use Rattle.pool.specs.Pool.{Pool, mapped, place, readBlock, readBlocks}
-use Rattle.forms.specs.declared.Move.the-variants.{Read, Write, Unmap}
+use Rattle.forms.specs.declared.Move.the-variants.{Read, Write, WriteSame, Unmap, Status}
 use Rattle.forms.specs.declared.Command.{Command}
 use Rattle.forms.specs.declared.Command.the-variants.{Tells, Moves, Alters}
 use Rattle.forms.specs.declared.Request.{Request}
 use Rattle.forms.specs.Forms.{Asked, nothing, asks, askedOf}
 use Rattle.store.specs.Store.{Store, Call, seenOf}
 use Rattle.store.specs.Tell.{tellRows}
-use Rattle.store.specs.Move.{readRows, moveRows, fetched}
+use Rattle.store.specs.Move.{readRows, statusRows, moveRows, fetched}
 use Rattle.store.specs.Step.{commandRows, ownRows, commandData, dataBy, answerTo, stepBy, step}
 use Rattle.store.proofs.Parts.{good-own}
 
@@ -41,12 +41,14 @@ blocks-most p a (suc n) =
 -- ---- each command's own tests see to it
 
 command-fits : (k : Command) (q : Request) (s : Store) (c : Call) → first (commandRows k q s c) ≡ Good → length (commandData k q s) ≤ length (c .dataIn)
-unfolding commandRows commandData tellRows moveRows readRows fetched refuses
+unfolding commandRows commandData tellRows moveRows readRows statusRows fetched refuses
 command-fits (Tells t) q s c e = ltb-false _ _ (row-fails _ _ _ tt e)
 command-fits (Moves Read) q s c e =
     omega (arith, blocks-most (s .pool) (q .address .0) (q .size), ltb-false (length (c .dataIn)) (512 * q .size) (row-fails _ _ _ tt (rows-after _ _ _ tt e)))
 command-fits (Moves Write) q s c e = omega arith
+command-fits (Moves WriteSame) q s c e = omega arith
 command-fits (Moves Unmap) q s c e = omega arith
+command-fits (Moves Status) q s c e = ltb-false _ _ (row-fails _ _ _ tt (rows-after _ _ _ tt e))
 command-fits (Alters a) q s c e = omega arith
 
 own-fits : (x : Asked) (s : Store) (c : Call) → first (ownRows x s c) ≡ Good → length (dataBy x s) ≤ length (c .dataIn)

@@ -9,7 +9,7 @@ use Rattle.rights.specs.declared.Rights.{Rights}
 use Rattle.rights.specs.Places.{registered}
 use Rattle.rights.specs.Rights.{isOneOf, isType, holds}
 use Rattle.forms.specs.declared.Tell.the-variants.{Ready, Inquiry, Capacity10, Capacity16, Keys, Reservation}
-use Rattle.forms.specs.declared.Move.the-variants.{Read, Write, Unmap}
+use Rattle.forms.specs.declared.Move.the-variants.{Read, Write, WriteSame, Unmap, Status}
 use Rattle.forms.specs.declared.Command.{Command}
 use Rattle.forms.specs.declared.Command.the-variants.{Tells, Moves, Alters}
 use Rattle.store.specs.declared.Column.{Column}
@@ -61,6 +61,7 @@ cells a b c d e = a ∷ b ∷ c ∷ d ∷ e ∷ []
 -- Q-5: "rows per command"; from any nexus: Write Exclusive, Exclusive Access; from a registered nexus: RR; from a nexus not registered:
 -- Write Exclusive - RR, Exclusive Access - RR
 unfoldable pub row : Command → List Bool
+row (Moves Status) = cells Allowed Conflict Allowed Allowed Conflict  -- GET LBA STATUS
 row (Tells Inquiry) = cells Allowed Allowed Allowed Allowed Allowed  -- INQUIRY
 row (Tells Keys) = cells Allowed Allowed Allowed Allowed Allowed  -- PERSISTENT RESERVE IN, READ KEYS
 row (Tells Reservation) = cells Allowed Allowed Allowed Allowed Allowed  -- PERSISTENT RESERVE IN, READ RESERVATION
@@ -71,6 +72,7 @@ row (Tells Capacity16) = cells Allowed Allowed Allowed Allowed Allowed  -- READ 
 row (Tells Ready) = cells Allowed Allowed Allowed Allowed Allowed  -- TEST UNIT READY
 row (Moves Unmap) = cells Conflict Conflict Allowed Conflict Conflict  -- UNMAP
 row (Moves Write) = cells Conflict Conflict Allowed Conflict Conflict  -- WRITE
+row (Moves WriteSame) = cells Conflict Conflict Allowed Conflict Conflict  -- WRITE SAME
 
 -- what a row says in a column; without one, the command passes
 unfoldable pub says : Column → List Bool → Bool
@@ -96,6 +98,9 @@ stops kind (Tells t) = false
 stops kind (Moves Read) = isOneOf kind (3 ∷ 6 ∷ 8 ∷ [])
 stops kind (Moves Write) = isType kind
 stops kind (Moves Unmap) = isType kind
+-- Q-1: "Conflicts: as WRITE and as READ."
+stops kind (Moves WriteSame) = isType kind
+stops kind (Moves Status) = isOneOf kind (3 ∷ 6 ∷ 8 ∷ [])
 stops kind (Alters a) = false
 
 unfoldable pub ruled : Rights → ℕ → Command → Bool

@@ -1,5 +1,6 @@
 pub mod Store
 pub mod Tell
+pub mod Same
 pub mod Move
 pub mod Alter
 pub mod Conflict

@@ -66,7 +66,7 @@ answerBy e s c =
 -- the bytes returned
 unfoldable pub commandData : Command → Request → Store → List ℕ
 commandData (Tells t) q s = told t (allocationIn q) (s .unit)
-commandData (Moves m) q s = fetched m q (s .pool)
+commandData (Moves m) q s = fetched m q (s .unit .capacity) (s .pool)
 commandData (Alters a) q s = []
 
 unfoldable pub dataBy : Asked → Store → List ℕ

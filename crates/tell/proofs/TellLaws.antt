@@ -1,28 +1,26 @@
 -- Commands that tell, by the ways through their rows.
 -- Assumes nothing.
-use mathlib.Core.Path.{_≡_, refl, sym, ap, _∙_}
-use mathlib.Core.Bool.{Bool, true, false}
+use mathlib.Core.Path.{_≡_, sym, ap, _∙_}
 use mathlib.Core.List.{List, [], _∷_}
-use Prim.Native.Nat.{ℕ, _-_, _≤_, _<_, min}
+use Prim.Native.Nat.{ℕ, _-_, min}
 use native.Mathlib.Omega.{arith}
-use lib.Dec.{leb, ltb}
-use lib.ListN.{length, take, getD, length-take}
-use lib.Seq.{take-all}
-use borrow.Author.Tests.{lt-ltb, le-ltb, leb-true, leb-false}
+use lib.Dec.{ltb}
+use lib.ListN.{length, take, getD}
+use borrow.Author.Tests.{le-ltb}
 use Rattle.fields.specs.Bytes.{put, zeros}
 use Rattle.fields.specs.Field.{bytes}
 use Rattle.fields.proofs.BytesLaws.{put-none}
 use Rattle.answers.specs.declared.Answer.the-variants.{Good, Short}
-use Rattle.answers.specs.Order.{_if_, first, refuses}
-use Rattle.answers.proofs.OrderLaws.{row-pass, row-stop, row-end}
+use Rattle.answers.proofs.OrderLaws.{row-pass, row-end}
 use Rattle.rights.specs.Told.{keysData, reservationData}
 use Rattle.forms.specs.declared.Tell.{Tell}
 use Rattle.forms.specs.declared.Tell.the-variants.{Ready, Inquiry, Capacity10, Capacity16, Keys, Reservation}
 use Rattle.store.specs.declared.Unit.{Unit}
 use Rattle.store.specs.Tell.{inquiryData, capacity10Data, capacity16Data, told, tellRows}
-use Rattle.reply.specs.Reply.{Replied, replyOf}
-use Rattle.tell.specs.Cut.{gives, tells}
-use Rattle.reply.proofs.ReplyLaws.{plain, reply-refused, reply-done}
+use Rattle.reply.specs.Reply.{Replied}
+use Rattle.reply.specs.Cut.{gives}
+use Rattle.reply.proofs.ReplyLaws.{plain, reply-done}
+use Rattle.tell.specs.Telling.{tells}
 
 -- ---- the parameter data of READ CAPACITY
 
@@ -35,40 +33,6 @@ pub capacity16-is : (a : List ℕ) (capacity : ℕ) → a ≡ bytes 8 (capacity 
     → getD a 0 0 ∷ getD a 1 0 ∷ getD a 2 0 ∷ getD a 3 0 ∷ getD a 4 0 ∷ getD a 5 0 ∷ getD a 6 0 ∷ getD a 7 0 ∷ 0 ∷ 0 ∷ 2 ∷ 0 ∷ 0 ∷ 0 ∷ 0xC0 ∷ zeros 17 ≡ capacity16Data capacity
 unfolding capacity16Data bytes zeros
 capacity16-is a capacity e = rw e
-
--- ---- cut to the allocation length
-
-take-least : (n : ℕ) (bs : List ℕ) → take (min n (length bs)) bs ≡ take n bs
-take-least n bs = go (leb n (length bs)) refl
-  where
-    go : (b : Bool) → leb n (length bs) ≡ b → take (min n (length bs)) bs ≡ take n bs
-    go true e =
-        let h : n ≤ length bs = leb-true _ _ e in
-        let k : min n (length bs) ≡ n = omega arith in
-        rw k
-    go false e =
-        let h : length bs < n = leb-false _ _ e in
-        take-all (min n (length bs)) bs (omega arith) ∙ sym (take-all n bs (omega arith))
-
-module _ (n : ℕ) (bs dataIn : List ℕ) (m : ℕ) (e : m ≡ min n (length bs)) where
-  cut-length : length (take n bs) ≡ m
-  cut-length = length-take n bs ∙ sym e
-
-  cut-take : take m bs ≡ take n bs
-  cut-take = ap (λ (k : ℕ). take k bs) e ∙ take-least n bs
-
-  pub give-short : length dataIn < m → plain Short dataIn ≡ gives (take n bs) dataIn
-  unfolding refuses
-  give-short h =
-      reply-refused _ Short _ dataIn (row-stop Short _ _ (ap (ltb (length dataIn)) cut-length ∙ lt-ltb (length dataIn) m h)) tt
-
-  pub give-done : (after : List ℕ) → m ≤ length dataIn → after ≡ put dataIn 0 (take m bs)
-      → record { answer = Good; returned = m; dataIn = after } ≡ gives (take n bs) dataIn
-  give-done after h k =
-      reply-done _ _ dataIn m after
-      (row-pass Short _ _ (ap (ltb (length dataIn)) cut-length ∙ le-ltb (length dataIn) m h) ∙ row-end)
-      (sym cut-length)
-      (k ∙ ap (put dataIn 0) cut-take)
 
 -- ---- what is told is what is there, cut
 

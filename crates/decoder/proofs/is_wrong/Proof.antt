@@ -49,11 +49,23 @@ enum-told-7 c = search needs
 byte-requires-5 : tie.Need-byte-requires-5
 byte-requires-5 c κs = search needs
 
+bit-requires-3 : tie.Need-bit-requires-3
+bit-requires-3 c κs = search needs
+
 enum-told-8 : tie.Need-enum-told-8
 enum-told-8 c = search needs
 
+enum-told-9 : tie.Need-enum-told-9
+enum-told-9 c = search needs
+
 byte-requires-6 : tie.Need-byte-requires-6
 byte-requires-6 c κs = search needs
+
+enum-told-10 : tie.Need-enum-told-10
+enum-told-10 c = search needs
+
+byte-requires-7 : tie.Need-byte-requires-7
+byte-requires-7 c κs = search needs
 
 is-type-requires : tie.Need-is-type-requires
 is-type-requires c κs = search needs
@@ -84,11 +96,19 @@ returns-6 c = simp (c .before .before .enum-told6 .given .1, sym (c .before .byt
 
 returns-7 : tie.Need-returns-7
 unfolding wrong
-returns-7 c = simp (c .before .enum-told7 .given .1, sym (c .byte5 .ensures))
+returns-7 c = simp (c .before .before .enum-told7 .given .1, sym (c .before .byte5 .ensures)) (c .bit3 .ensures)
 
 returns-8 : tie.Need-returns-8
 unfolding wrong
-returns-8 c = simp (c .before .before .enum-told8 .given .1, sym (c .before .byte6 .ensures)) (ap not (c .is-type .ensures))
+returns-8 c = simp (c .enum-told8 .given .1)
+
+returns-9 : tie.Need-returns-9
+unfolding wrong
+returns-9 c = simp (c .before .enum-told9 .given .1, sym (c .byte6 .ensures))
+
+returns-10 : tie.Need-returns-10
+unfolding wrong
+returns-10 c = simp (c .before .before .enum-told10 .given .1, sym (c .before .byte7 .ensures)) (ap not (c .is-type .ensures))
 
 pub is-wrong-spec : {M : Type 1} → statement M
 is-wrong-spec =
@@ -108,8 +128,12 @@ is-wrong-spec =
     bit-requires-2
     enum-told-7
     byte-requires-5
+    bit-requires-3
     enum-told-8
+    enum-told-9
     byte-requires-6
+    enum-told-10
+    byte-requires-7
     is-type-requires
     returns
     returns-2
@@ -118,4 +142,6 @@ is-wrong-spec =
     returns-5
     returns-6
     returns-7
-    returns-8)
+    returns-8
+    returns-9
+    returns-10)

@@ -17,10 +17,13 @@ byte-requires c κs = search needs
 cast-kind : tie.Need-cast-kind
 cast-kind c = search needs
 
+byte-requires-2 : tie.Need-byte-requires-2
+byte-requires-2 c κs = search needs
+
 returns : tie.Need-returns
 unfolding requestBy
-returns c = simp (c .byte .ensures, c .before .number-at2 .ensures, c .before .before .number-at .ensures)
+returns c = simp (c .byte2 .ensures, c .before .byte .ensures, c .before .before .number-at2 .ensures, c .before .before .before .number-at .ensures)
 
 pub request-of-spec : {M : Type 1} → statement M
 request-of-spec =
-    tie.close (tie.spec number-at-requires number-at-requires-2 byte-requires cast-kind returns)
+    tie.close (tie.spec number-at-requires number-at-requires-2 byte-requires cast-kind byte-requires-2 returns)

@@ -1,6 +1,6 @@
 -- `decoder::tested` meets its contract. Assumes nothing.
 use mathlib.Core.Path.{sym, _∙_}
-use Rattle.decoder.proofs.DecodingLaws.{tested-first, tested-second, tested-passes}
+use Rattle.decoder.proofs.DecodingLaws.{tested-first, tested-second, tested-third, tested-passes}
 use borrow.Author.Needs.{needs}
 use Rattle.decoder.proofs.tested.Statement.{statement}
 use Rattle.decoder.proofs.tested.Tie as tie
@@ -27,8 +27,17 @@ invalid-field-requires-2 c κs = search needs
 returns-2 : tie.Need-returns-2
 returns-2 c = rw (c .invalid-field2 .ensures) (tested-second _ _ _ (c .before .before .before .before .before .request-of .ensures) (sym (c .before .before .before .before .is-wrong .ensures) ∙ (c .before .before .before .if1 .left)) (sym (c .before .before .is-wrong2 .ensures) ∙ (c .before .if2 .taken)))
 
+is-wrong-requires-3 : tie.Need-is-wrong-requires-3
+is-wrong-requires-3 c κs = search needs
+
+invalid-field-requires-3 : tie.Need-invalid-field-requires-3
+invalid-field-requires-3 c κs = search needs
+
 returns-3 : tie.Need-returns-3
-returns-3 c = tested-passes _ _ _ (c .before .before .before .before .request-of .ensures) (sym (c .before .before .before .is-wrong .ensures) ∙ (c .before .before .if1 .left)) (sym (c .before .is-wrong2 .ensures) ∙ (c .if2 .left))
+returns-3 c = rw (c .invalid-field3 .ensures) (tested-third _ _ _ (c .before .before .before .before .before .before .before .request-of .ensures) (sym (c .before .before .before .before .before .before .is-wrong .ensures) ∙ (c .before .before .before .before .before .if1 .left)) (sym (c .before .before .before .before .is-wrong2 .ensures) ∙ (c .before .before .before .if2 .left)) (sym (c .before .before .is-wrong3 .ensures) ∙ (c .before .if3 .taken)))
+
+returns-4 : tie.Need-returns-4
+returns-4 c = tested-passes _ _ _ (c .before .before .before .before .before .before .request-of .ensures) (sym (c .before .before .before .before .before .is-wrong .ensures) ∙ (c .before .before .before .before .if1 .left)) (sym (c .before .before .before .is-wrong2 .ensures) ∙ (c .before .before .if2 .left)) (sym (c .before .is-wrong3 .ensures) ∙ (c .if3 .left))
 
 pub tested-spec : {M : Type 1} → statement M
 tested-spec =
@@ -41,4 +50,7 @@ tested-spec =
     is-wrong-requires-2
     invalid-field-requires-2
     returns-2
-    returns-3)
+    is-wrong-requires-3
+    invalid-field-requires-3
+    returns-3
+    returns-4)

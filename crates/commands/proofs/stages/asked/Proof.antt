@@ -1,10 +1,10 @@
 -- `commands::stages::asked` meets its contract. Assumes nothing.
 use mathlib.Core.Path.{sym, _∙_}
+use Rattle.conflict.proofs.TableLaws.{none-stopped}
 use Rattle.commands.proofs.StageLaws.{long-least, asked-unlisted, asked-length, asked-wrong, asked-conflict, asked-passes}
 use borrow.Author.Needs.{needs}
 use Rattle.commands.proofs.stages.asked.Statement.{statement}
 use Rattle.commands.proofs.stages.asked.Tie as tie
-use Rattle.commands.proofs.stages.asked.Reads as reads
 
 entry-of-requires : tie.Need-entry-of-requires
 entry-of-requires c κs = search needs
@@ -33,17 +33,20 @@ enum-known-decoded c = search needs
 enum-known-decoded-2 : tie.Need-enum-known-decoded-2
 enum-known-decoded-2 c = search needs
 
+returns-3 : tie.Need-returns-3
+returns-3 c = asked-passes _ _ _ _ _ (sym (c .before .before .before .before .before .before .before .before .before .before .before .entry-of .ensures) ∙ (c .before .before .before .before .before .before .before .before .before .entry .given .1)) (c .before .before .before .before .before .before .if1 .left) _ (c .before .before .before .before .before .request .ensures) _ (c .before .before .before .decoded2 .given .1) (sym (none-stopped _ _ _ (c .if2 .taken)))
+
 conflicts-requires : tie.Need-conflicts-requires
 conflicts-requires c κs = search needs
 
-returns-3 : tie.Need-returns-3
-returns-3 c = asked-conflict _ _ _ _ _ (sym (c .before .before .before .before .before .before .before .before .before .before .before .entry-of .ensures) ∙ (c .before .before .before .before .before .before .before .before .before .entry .given .1)) (c .before .before .before .before .before .before .if1 .left) _ (c .before .before .before .before .before .request .ensures) _ (c .before .before .before .decoded2 .given .1) (sym (c .before .conflicts .ensures) ∙ (c .if2 .taken))
-
 returns-4 : tie.Need-returns-4
-returns-4 c = asked-wrong _ _ _ _ _ (sym (c .before .before .before .before .before .before .before .before .before .entry-of .ensures) ∙ (c .before .before .before .before .before .before .before .entry .given .1)) (c .before .before .before .before .if1 .left) _ (c .before .before .before .request .ensures) _ (c .before .decoded .given .1)
+returns-4 c = asked-conflict _ _ _ _ _ (sym (c .before .before .before .before .before .before .before .before .before .before .before .before .before .entry-of .ensures) ∙ (c .before .before .before .before .before .before .before .before .before .before .before .entry .given .1)) (c .before .before .before .before .before .before .before .before .if1 .left) _ (c .before .before .before .before .before .before .before .request .ensures) _ (c .before .before .before .before .before .decoded2 .given .1) (sym (c .before .conflicts .ensures) ∙ (c .if3 .taken))
 
 returns-5 : tie.Need-returns-5
-returns-5 c = asked-passes _ _ _ _ _ (sym (c .before .before .before .before .before .before .before .before .before .before .before .entry-of .ensures) ∙ (c .before .before .before .before .before .before .before .before .before .entry .given .1)) (c .before .before .before .before .before .before .if1 .left) _ (c .before .before .before .before .before .request .ensures) _ (c .before .before .before .decoded2 .given .1) (sym (c .before .conflicts .ensures) ∙ (c .if2 .left))
+returns-5 c = asked-wrong _ _ _ _ _ (sym (c .before .before .before .before .before .before .before .before .before .entry-of .ensures) ∙ (c .before .before .before .before .before .before .before .entry .given .1)) (c .before .before .before .before .if1 .left) _ (c .before .before .before .request .ensures) _ (c .before .decoded .given .1)
+
+returns-6 : tie.Need-returns-6
+returns-6 c = asked-passes _ _ _ _ _ (sym (c .before .before .before .before .before .before .before .before .before .before .before .before .before .entry-of .ensures) ∙ (c .before .before .before .before .before .before .before .before .before .before .before .entry .given .1)) (c .before .before .before .before .before .before .before .before .if1 .left) _ (c .before .before .before .before .before .before .before .request .ensures) _ (c .before .before .before .before .before .decoded2 .given .1) (sym (c .before .conflicts .ensures) ∙ (c .if3 .left))
 
 pub asked-spec : {M : Type 1} → statement M
 asked-spec =
@@ -58,7 +61,8 @@ asked-spec =
     request-requires
     enum-known-decoded
     enum-known-decoded-2
-    conflicts-requires
     returns-3
+    conflicts-requires
     returns-4
-    returns-5)
+    returns-5
+    returns-6)

@@ -39,8 +39,11 @@ transfer16-requires c κs = search needs
 transfer16-requires-2 : tie.Need-transfer16-requires-2
 transfer16-requires-2 c κs = search needs
 
-capacity16-requires : tie.Need-capacity16-requires
-capacity16-requires c κs = search needs
+same16-requires : tie.Need-same16-requires
+same16-requires c κs = search needs
+
+service-in-requires : tie.Need-service-in-requires
+service-in-requires c κs = search needs
 
 returns : tie.Need-returns
 unfolding entryFor lookup lines takes
@@ -81,15 +84,19 @@ unfolding entryFor lookup lines takes
 returns-10 c = simp (c .transfer162 .ensures, c .before .match .keys10)
 
 returns-11 : tie.Need-returns-11
-returns-11 c = simp (c .capacity16 .ensures, c .before .match .keys11)
+unfolding entryFor lookup lines takes
+returns-11 c = simp (c .same16 .ensures, c .before .match .keys11)
 
 returns-12 : tie.Need-returns-12
-unfolding entryFor lines lists
-returns-12 c = sym (lookup-skips _ _ _ _ (elim (c .match .keys12) [ inl e ↦ simp e | inr e ↦ simp e ]))
+returns-12 c = simp (c .service-in .ensures, c .before .match .keys12)
 
 returns-13 : tie.Need-returns-13
 unfolding entryFor lines lists
-returns-13 c = sym (lookup-skips _ _ _ _ (let r = (c .match) in simp (ne-eqb _ 0 (r .rest .0 .0 .0 .0 .0 .0 .0 .0 .0 .0 .0 .1), ne-eqb _ 18 (r .rest .0 .0 .0 .0 .0 .0 .0 .0 .0 .0 .1), ne-eqb _ 37 (r .rest .0 .0 .0 .0 .0 .0 .0 .0 .0 .1), ne-eqb _ 40 (r .rest .0 .0 .0 .0 .0 .0 .0 .0 .1), ne-eqb _ 42 (r .rest .0 .0 .0 .0 .0 .0 .0 .1), ne-eqb _ 66 (r .rest .0 .0 .0 .0 .0 .0 .1), ne-eqb _ 94 (r .rest .0 .0 .0 .0 .0 .1), ne-eqb _ 95 (r .rest .0 .0 .0 .0 .1), ne-eqb _ 136 (r .rest .0 .0 .0 .1), ne-eqb _ 138 (r .rest .0 .0 .1), ne-eqb _ 158 (r .rest .0 .1))))
+returns-13 c = sym (lookup-skips _ _ _ _ (elim (c .match .keys13) [ inl e ↦ simp e | inr e ↦ simp e ]))
+
+returns-14 : tie.Need-returns-14
+unfolding entryFor lines lists
+returns-14 c = sym (lookup-skips _ _ _ _ (let r = (c .match) in simp (ne-eqb _ 0 (r .rest .0 .0 .0 .0 .0 .0 .0 .0 .0 .0 .0 .0 .1), ne-eqb _ 18 (r .rest .0 .0 .0 .0 .0 .0 .0 .0 .0 .0 .0 .1), ne-eqb _ 37 (r .rest .0 .0 .0 .0 .0 .0 .0 .0 .0 .0 .1), ne-eqb _ 40 (r .rest .0 .0 .0 .0 .0 .0 .0 .0 .0 .1), ne-eqb _ 42 (r .rest .0 .0 .0 .0 .0 .0 .0 .0 .1), ne-eqb _ 66 (r .rest .0 .0 .0 .0 .0 .0 .0 .1), ne-eqb _ 94 (r .rest .0 .0 .0 .0 .0 .0 .1), ne-eqb _ 95 (r .rest .0 .0 .0 .0 .0 .1), ne-eqb _ 136 (r .rest .0 .0 .0 .0 .1), ne-eqb _ 138 (r .rest .0 .0 .0 .1), ne-eqb _ 147 (r .rest .0 .0 .1), ne-eqb _ 158 (r .rest .0 .1))))
 
 pub entry-for-spec : {M : Type 1} → statement M
 entry-for-spec =
@@ -105,7 +112,8 @@ entry-for-spec =
     reserve-out-requires
     transfer16-requires
     transfer16-requires-2
-    capacity16-requires
+    same16-requires
+    service-in-requires
     returns
     returns-2
     returns-3
@@ -118,4 +126,5 @@ entry-for-spec =
     returns-10
     returns-11
     returns-12
-    returns-13)
+    returns-13
+    returns-14)

@@ -1,22 +1,21 @@
 -- `kept`: the three ways of a number against a range.
 -- Assumes nothing.
-use mathlib.Core.Path.{sym}
 use borrow.Author.Needs.{needs}
-use Rattle.pool.proofs.Held.{freed-low, freed-in, freed-high}
+use Rattle.map.proofs.Turns.{kept-in, kept-out}
 use Rattle.map.proofs.unmap.kept.Statement.{statement}
 use Rattle.map.proofs.unmap.kept.Tie as tie
 
-add-end : tie.Need-add-end
-add-end c = search needs
+add-first : tie.Need-add-first
+add-first c = search needs
+
+above-requires : tie.Need-above-requires
+above-requires c κs = search needs
 
 returns : tie.Need-returns
-returns c = sym (freed-low _ _ _ (c .if1 .taken))
+returns c = kept-in _ _ _ _ (c .before .before .before .pre) (c .before .above .ensures) (c .if1 .taken)
 
 returns-2 : tie.Need-returns-2
-returns-2 c = sym (freed-in _ _ _ (c .before .if1 .left) (c .if2 .taken))
-
-returns-3 : tie.Need-returns-3
-returns-3 c = sym (freed-high _ _ _ (c .if2 .left))
+returns-2 c = kept-out _ _ _ _ (c .before .before .before .pre) (c .before .above .ensures) (c .if1 .left)
 
 pub kept-spec : {M : Type 1} → statement M
-kept-spec = tie.close (tie.spec add-end returns returns-2 returns-3)
+kept-spec = tie.close (tie.spec add-first above-requires returns returns-2)

@@ -1,18 +1,15 @@
 -- `put_blocks`: the bytes of the blocks passed are at their places, those left are to be put.
 -- Assumes nothing.
 use mathlib.Core.Path.{_≡_, _∙_, sym, refl, ap}
-use mathlib.Core.List.{List}
-use Prim.Native.Nat.{ℕ, _≤_, _<_, _+_, _-_, _*_}
+use Prim.Native.Nat.{_≤_, _<_, _-_, _*_}
 use native.Mathlib.Omega.{arith}
 use lib.ListN.{length, take, drop, getD}
-use lib.Seq.{length-take-le, getD-take}
-use borrow.Rule.Slice.PartMut.{putMid}
 use borrow.Author.Needs.{needs}
-use Rattle.fields.specs.Bytes.{part, put}
+use Rattle.fields.specs.Bytes.{part}
 use Rattle.fields.proofs.BytesLaws.{length-part}
 use Rattle.pool.specs.Bounds.{blockBytes}
 use Rattle.map.specs.Index.{putPlaces}
-use Rattle.map.proofs.Blocks.{lent-back, part-is, put-turn, put-end}
+use Rattle.map.proofs.Blocks.{part-is, put-turn, put-end}
 use Rattle.map.proofs.write.put_blocks.Statement.{statement}
 use Rattle.map.proofs.write.put_blocks.Tie as tie
 
@@ -85,15 +82,11 @@ loop-again c =
     let c₁₁ = c₇ .before .before .before .before in
     let a = c₁₁ .args in
     let l = c₇ .loop in
-    let i = getD (a .index .now) (l .k) 0 in
-    let b : i < a .slots = c₁₁ .pre .5 (l .k) (c₆ .loop-test .taken) in
-    let is = take (a .count) (a .index .now) in
-    let w : l .k < length is = rw (length-take-le (a .count) (a .index .now) (c₁₁ .pre .2)) (c₆ .loop-test .taken) in
-    let g : getD is (l .k) 0 ≡ i = getD-take (a .count) (a .index .now) (l .k) 0 (c₆ .loop-test .taken) in
-    let p : part (a .bytes .now) (blockBytes * l .k) blockBytes ≡ c .before .before .copy .last .0 = sym ((c .before .before .copy .ensures) ∙ part-is (blockBytes * l .k) blockBytes (a .bytes .now)) in
-    let m : putMid (blockBytes * i) (blockBytes * i + blockBytes - blockBytes * i) (l .medium) (c .before .before .copy .last .0) ≡ put (l .medium) (blockBytes * getD is (l .k) 0) (part (a .bytes .now) (blockBytes * l .k) blockBytes) =
-    rw (g, p) (lent-back (l .medium) (c .before .before .copy .last .0) (blockBytes * i) blockBytes (ap length (sym p) ∙ length-part (a .bytes .now) (blockBytes * l .k) blockBytes (omega arith)) (omega arith)) in
-    (search needs, c .before .medium .given .1 ∙ l .inv .1, ap (λ (z : List ℕ). putPlaces (drop (l .k + 1) is) z (drop (blockBytes * (l .k + 1)) (a .bytes .now))) m ∙ sym (put-turn is (l .medium) (a .bytes .now) (l .k) w) ∙ l .inv .2)
+    let h = c₆ .loop-test .taken in
+    let b : getD (a .index .now) (l .k) 0 < a .slots = c₁₁ .pre .5 (l .k) h in
+    let e : c .before .before .copy .last .0 ≡ part (a .bytes .now) (blockBytes * l .k) blockBytes = (c .before .before .copy .ensures) ∙ part-is (blockBytes * l .k) blockBytes (a .bytes .now) in
+    let s = ap length e ∙ length-part (a .bytes .now) (blockBytes * l .k) blockBytes (omega arith) in
+    (search needs, c .before .medium .given .1 ∙ l .inv .1, put-turn (a .index .now) (l .medium) (a .bytes .now) (a .count) (l .k) (c₁₁ .pre .2) _ h (omega arith) s e ∙ l .inv .2)
 
 same-length : tie.Need-same-length Inv-loop μ-loop
 same-length c = search needs
@@ -103,8 +96,7 @@ returns c =
     let c₅ = c .before .before .before .before .before in
     let a = c₅ .args in
     let l = c .before .loop in
-    let n = length-take-le (a .count) (a .index .now) (c₅ .pre .2) in
-    sym (put-end (take (a .count) (a .index .now)) (l .medium) (a .bytes .now) (l .k) (omega arith)) ∙ l .inv .2
+    sym (put-end (a .index .now) (l .medium) (a .bytes .now) (a .count) (l .k) (c₅ .pre .2) (omega arith)) ∙ l .inv .2
 
 pub put-blocks-spec : {M : Type 1} → statement M
 put-blocks-spec =

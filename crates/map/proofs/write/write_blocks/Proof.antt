@@ -1,12 +1,10 @@
 -- `write_blocks`: the slots given complete the index, by which the bytes are put.
 -- Assumes nothing.
-use mathlib.Core.Path.{_∙_}
 use native.Mathlib.Omega.{arith}
 use borrow.Author.Needs.{needs}
 use borrow.Author.Tests.{not-true, not-false}
 use Rattle.pool.specs.Pool.{pool}
-use Rattle.map.proofs.Blocks.{put-indexed, given-below}
-use Rattle.map.proofs.Trying.{gave-room, gave-index, try-full, try-done}
+use Rattle.map.proofs.Trying.{gave-size, gave-below, try-full, try-done}
 use Rattle.map.proofs.write.write_blocks.Statement.{statement}
 use Rattle.map.proofs.write.write_blocks.Tie as tie
 
@@ -41,9 +39,8 @@ put-blocks-requires c κs =
     let p = c₁₄ .pre in
     let g = c₆ .give-slots .ensures in
     let t = not-false _ (c₂ .if1 .left) in
-    let r = gave-room (a .owners .now) (a .lba .0) (a .count) _ _ _ g t in
-    let x = gave-index (a .owners .now) (a .lba .0) (a .count) _ _ _ g t in
-    (p .0, p .2, omega (arith, p .0, x .size), p .3, p .4, λ k h. given-below (a .owners .now) _ (a .lba .0) (a .count) k r x h)
+    let s = gave-size (a .owners .now) (a .lba .0) (a .count) _ _ _ g t in
+    (omega (arith, p .0), p .2, omega (arith, p .0, s), p .3, p .4, gave-below (a .owners .now) (a .lba .0) (a .count) _ _ _ g t)
 
 same-length-2 : tie.Need-same-length-2
 same-length-2 c = search needs
@@ -57,11 +54,7 @@ returns-2 c =
     let c₉ = c₅ .before .before .before .before in
     let c₁₇ = c₉ .before .before .before .before .before .before .before .before in
     let a = c₁₇ .args in
-    let g = c₉ .give-slots .ensures in
-    let t = not-false _ (c₅ .if1 .left) in
-    let x = gave-index (a .owners .now) (a .lba .0) (a .count) _ _ _ g t in
-    try-done (pool (a .owners .now) (a .medium .now)) (a .lba .0) (a .count) (a .bytes .now) _ _ _ g _ t
-    ((c .before .before .put-blocks .ensures) ∙ put-indexed _ _ (a .lba .0) (a .count) (a .medium .now) (a .bytes .now) x)
+    try-done (pool (a .owners .now) (a .medium .now)) (a .lba .0) (a .count) (a .bytes .now) _ _ _ (c₉ .give-slots .ensures) _ (not-false _ (c₅ .if1 .left)) (c .before .before .put-blocks .ensures)
 
 pub write-blocks-spec : {M : Type 1} → statement M
 write-blocks-spec =

@@ -1,8 +1,9 @@
--- `tell::give` meets its contract. Assumes nothing.
+-- `reply::cut::give` meets its contract.
+-- Assumes nothing.
 use borrow.Author.Needs.{needs}
-use Rattle.tell.proofs.TellLaws.{give-short, give-done}
-use Rattle.tell.proofs.give.Statement.{statement}
-use Rattle.tell.proofs.give.Tie as tie
+use Rattle.reply.proofs.CutLaws.{give-short, give-done}
+use Rattle.reply.proofs.cut.give.Statement.{statement}
+use Rattle.reply.proofs.cut.give.Tie as tie
 
 cut-to-requires : tie.Need-cut-to-requires
 cut-to-requires c κs = search needs

@@ -1,0 +1,4 @@
+pub mod RunLaws
+pub mod PageLaws
+pub mod Truth
+pub mod Only

@@ -1,0 +1,34 @@
+/*
+ * occasions.h - what calls of WRITE SAME and GET LBA STATUS must have come to
+ * in a long run: each rule of Q-1, each refusal by its own cause alone, and the
+ * near misses on both sides. A rule that no call came near was not tried.
+ */
+
+#ifndef OCCASIONS_H
+#define OCCASIONS_H
+
+#include "generate.h"
+
+enum { OCCASIONS = 45 };
+
+/* A call and its answer; unit and owners are those from before it. The CDB has
+   16 bytes. */
+struct occasion {
+    const struct ridge_unit *unit;
+    const uint64_t *owners;
+    size_t slots;
+    const uint8_t *cdb;
+    const uint8_t *data_out;
+    size_t data_out_bytes;
+    const uint8_t *data_in;
+    size_t data_in_bytes;
+    uint64_t answer;
+    uint64_t returned;
+};
+
+/* Counts what the call came to: nothing for other commands. */
+void occasions_count(const struct occasion *call, uint64_t counts[OCCASIONS]);
+
+const char *occasion_name(size_t occasion);
+
+#endif

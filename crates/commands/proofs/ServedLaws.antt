@@ -57,7 +57,7 @@ whole-pool Unusable bs u done kept dataIn = refl
 whole-pool Short bs u done kept dataIn = refl
 
 module _ (k : Command) (q : Request) (u : Unit) (owners medium : List ℕ) (c : Call) where
-  pub tells-served : (t : Tell) (v : Replied) → k ≡ Tells t → v ≡ tells t (q .size) u (c .dataIn)
+  pub tells-served : (t : Tell) (v : Replied) → k ≡ Tells t → v ≡ tells t q u (c .dataIn)
       → serving v (storeOf u owners medium) ≡ servedBy k q (storeOf u owners medium) c
   unfolding servedBy commandRows commandData commandStore
   tells-served t v e h = rw e (serves-reply _ _ (storeOf u owners medium) (c .dataIn) v h)

@@ -76,7 +76,7 @@ pub fn act(
 {
     let command = request.command;
     match command {
-        Command::Tells(what) => replied(tell::tell(what, request.size, unit, data_in), unit),
+        Command::Tells(what) => replied(tell::tell(what, request, unit, data_in), unit),
         Command::Alters(action) => alters(action, request, unit, nexus, data_out),
         Command::Moves(what) => {
             let capacity = unit.capacity;

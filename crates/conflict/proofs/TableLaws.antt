@@ -39,11 +39,11 @@ table =
 
 pub number-listed : (k : Command) → numberOf k < 12
 unfolding numberOf
-number-listed k = ltb→lt (numberOf k) 12 (by-row (λ x. T (ltb (numberOf x) 12)) tt tt tt tt (λ _. tt) tt tt tt tt tt tt tt k)
+number-listed k = ltb→lt (numberOf k) 12 (by-row (λ x. T (ltb (numberOf x) 12)) tt tt tt tt tt (λ _. tt) tt tt tt tt tt tt tt k)
 
 pub row-there : (k : Command) → getD table (numberOf k) [] ≡ row k
 unfolding table numberOf row
-row-there = by-row (λ k. getD table (numberOf k) [] ≡ row k) refl refl refl refl (λ _. refl) refl refl refl refl refl refl refl
+row-there = by-row (λ k. getD table (numberOf k) [] ≡ row k) refl refl refl refl refl (λ _. refl) refl refl refl refl refl refl refl
 
 -- ---- nobody is stopped where there is no reservation, and by a row without a conflict
 

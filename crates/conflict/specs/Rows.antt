@@ -4,7 +4,7 @@ use mathlib.Core.Bool.{Bool, _||_}
 use mathlib.Core.List.{List}
 use Prim.Native.Nat.{ℕ}
 use lib.ListN.{getD}
-use Rattle.forms.specs.declared.Tell.the-variants.{Ready, Inquiry, Capacity10, Capacity16, Keys, Reservation}
+use Rattle.forms.specs.declared.Tell.the-variants.{Ready, Inquiry, VitalData, Capacity10, Capacity16, Keys, Reservation}
 use Rattle.forms.specs.declared.Move.the-variants.{Read, Write, WriteSame, Unmap, Status}
 use Rattle.forms.specs.declared.Command.{Command}
 use Rattle.forms.specs.declared.Command.the-variants.{Tells, Moves, Alters}
@@ -13,6 +13,7 @@ use Rattle.store.specs.Conflict.{Allowed}
 unfoldable pub numberOf : Command → ℕ
 numberOf (Moves Status) = 0
 numberOf (Tells Inquiry) = 1
+numberOf (Tells VitalData) = 1
 numberOf (Tells Keys) = 2
 numberOf (Tells Reservation) = 3
 numberOf (Alters action) = 4

@@ -54,6 +54,7 @@ fn number_of(command: Command) -> usize
     match command {
         Command::Tells(what) => match what {
             Tell::Inquiry => 1,
+            Tell::VitalData => 1,
             Tell::Keys => 2,
             Tell::Reservation => 3,
             Tell::Capacity10 => 6,

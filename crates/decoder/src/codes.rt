@@ -2,10 +2,11 @@
 ghost use mathlib.Core.Path.{_≡_};
 ghost use Rattle.forms.specs.Forms.{formOf, form, two, four, eight, listed, entryFor};
 ghost use Rattle.forms.specs.declared.Move.the-variants.{WriteSame};
-ghost use Rattle.forms.specs.declared.Command.the-variants.{Moves, Alters};
+ghost use Rattle.forms.specs.declared.Command.the-variants.{Tells, Moves, Alters};
 ghost use Rattle.forms.specs.declared.Span.the-variants.{Absent};
 ghost use Rattle.forms.specs.declared.Test.the-variants.{Nothing, Protection, Count, SameAnchor, SameCount, Scope, Kind};
 ghost use Rattle.forms.specs.declared.Service.the-variants.{Served, Other};
+use fields::numbers;
 use forms::Code;
 use forms::Command;
 use forms::Entry;
@@ -127,6 +128,30 @@ fn other(long: usize) -> Entry
     Entry::Listed(Code { long, service })
 }
 
+// An INQUIRY whose page code is held to this test.
+fn inquired(what: Tell, page: Test) -> Entry
+    ensures { λ r. ⌜ r ≡ listed 6 (Served (form (Tells what) Absent (two 3) page Nothing)) ⌝ }
+{
+    line(
+        6,
+        Command::Tells(what),
+        Span::Absent,
+        Span::At(Field::Two(3)),
+        page,
+        Test::Nothing,
+    )
+}
+
+// INQUIRY: bit 0 asks for a page of vital product data.
+fn inquiry(action: u8) -> Entry
+    ensures { λ r. ⌜ r ≡ entryFor 0x12 action ⌝ }
+{
+    if numbers::bit(action, 0) {
+        return inquired(Tell::VitalData, Test::VitalPage);
+    }
+    inquired(Tell::Inquiry, Test::Page)
+}
+
 // PERSISTENT RESERVE IN.
 fn reserve_in(action: u8) -> Entry
     ensures { λ r. ⌜ r ≡ entryFor 0x5E action ⌝ }
@@ -192,14 +217,7 @@ pub fn entry_for(code: u8, action: u8) -> Entry
 {
     match code {
         0x00 => plain(6, Command::Tells(Tell::Ready), Span::Absent),
-        0x12 => line(
-            6,
-            Command::Tells(Tell::Inquiry),
-            Span::Absent,
-            Span::At(Field::Two(3)),
-            Test::VitalData,
-            Test::Page,
-        ),
+        0x12 => inquiry(action),
         0x25 => plain(10, Command::Tells(Tell::Capacity10), Span::Absent),
         0x28 => transfer10(Move::Read),
         0x2A => transfer10(Move::Write),

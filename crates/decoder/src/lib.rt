@@ -2,9 +2,9 @@
 ghost use mathlib.Core.Path.{_≡_};
 ghost use Prim.Native.Nat.{_≤_};
 ghost use Rattle.answers.specs.Order.{first};
-ghost use Rattle.rights.specs.Rights.{isType};
+ghost use Rattle.rights.specs.Rights.{isOneOf, isType};
 ghost use Rattle.forms.specs.Forms.{action, entryOf, fieldNumber, number, requestBy, asks, askedBy};
-ghost use Rattle.forms.specs.Tests.{wrong, testRows, codeFieldRows};
+ghost use Rattle.forms.specs.Tests.{pages, wrong, testRows, codeFieldRows};
 ghost use Rattle.decoder.specs.Decoding.{decoded};
 use answers::Answer;
 use fields::numbers;
@@ -64,13 +64,15 @@ fn request_of(form: Form, cdb: &[u8]) -> Request
     let address = Lba(number_at(span, cdb));
     let span = form.size;
     let size = number_at(span, cdb);
-    let kind = (numbers::byte(cdb, 2) % 16) as u32;
+    let page = numbers::byte(cdb, 2);
+    let kind = (page % 16) as u32;
     let options = numbers::byte(cdb, 1);
     Request {
         command,
         address,
         size,
         kind,
+        page,
         options,
     }
 }
@@ -90,14 +92,26 @@ fn is_type(kind: u8) -> bool
     }
 }
 
+// One of the pages of vital product data.
+fn is_page(code: u8) -> bool
+    ensures { λ r. ⌜ r ≡ isOneOf code pages ⌝ }
+{
+    match code {
+        0x00 => true,
+        0xB0 => true,
+        0xB2 => true,
+        0..=255 => false,
+    }
+}
+
 // Whether a field is wrong, where `size` is the count, allocation length or list length.
 fn is_wrong(test: Test, size: u64, cdb: &[u8]) -> bool
     ensures { λ r. ⌜ r ≡ wrong test size (now (cdb .entry)) ⌝ }
 {
     match test {
         Test::Nothing => false,
-        Test::VitalData => numbers::bit(numbers::byte(cdb, 1), 0),
         Test::Page => !(numbers::byte(cdb, 2) == 0),
+        Test::VitalPage => !is_page(numbers::byte(cdb, 2)),
         Test::Protection => 32 <= numbers::byte(cdb, 1),
         Test::Count => (MOST_TRANSFER as u64) < size,
         Test::Anchor => numbers::bit(numbers::byte(cdb, 1), 0),

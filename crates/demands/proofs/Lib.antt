@@ -28,4 +28,6 @@ pub mod TakenOver
 pub mod WrongBuilds
 pub mod WriteSame
 pub mod MapTold
+pub mod BlockLimits
+pub mod WrongLimits
 pub mod Proved

@@ -45,7 +45,7 @@ module _ (s : Store) (r : Call) (a : Asks Read r) (e : IsGood s r) where
   unfolding moveRows
   read-long = read-passes (s .unit .capacity) (addressIn (a .request)) (countIn (a .request)) (r .dataIn) .0 (good-rows Read s r a e) .1
 
-  length-read : length (blocksIn (s .pool) (a .request)) ≡ 512 * countIn (a .request)
+  pub length-read : length (blocksIn (s .pool) (a .request)) ≡ 512 * countIn (a .request)
   length-read = length-readBlocks (s .pool) (addressIn (a .request)) (countIn (a .request)) (usable-whole s (good-usable s r e))
 
   pub read-returned : step s r .seen .returned ≡ 512 * countIn (a .request)

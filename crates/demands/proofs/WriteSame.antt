@@ -50,6 +50,13 @@ by-range a n b P f g =
     (λ i h e. subst P (sym (T-true (inRange a n b) (range-in a n b (omega arith) (omega arith)))) (f i h e))
     (λ out. by-test (inRange a n b) P (λ t. absurd (in-range a n b t out)) (λ t. g out))
 
+-- which blocks are mapped after a range is unmapped
+pub range-unmapped : (owners : List ℕ) (a n b : ℕ) → mapped (unmapOwners owners a n) b ≡ (mapped owners b && not (inRange a n b))
+range-unmapped owners a n b =
+    by-range a n b (λ q. mapped (unmapOwners owners a n) b ≡ (mapped owners b && not q))
+    (λ i h e. ap (mapped (unmapOwners owners a n)) e ∙ mapped-unmap-in owners a n i h ∙ sym (and-false (mapped owners b)))
+    (λ out. mapped-unmap-out owners a n b out ∙ sym (and-true (mapped owners b)))
+
 range-out : (a n b : ℕ) → T (not (inRange a n b)) → Outside a n b
 range-out a n b t = in-or-out a n b (λ i h e. absurd (T-not (inRange a n b) t (range-in a n b (omega arith) (omega arith)))) (λ out. out)
 
@@ -122,13 +129,7 @@ module _ (s : Store) (c : Call) (a : Asks WriteSame c) (e : IsGood s c) where
 
     cleared-map : (b : ℕ) → mapped (after step s c .pool .owners) b ≡ (mapped (s .pool .owners) b && not (covers (a .request) b))
     unfolding covers unmapBlocks
-    cleared-map b =
-        ap (λ (p : Pool). mapped (p .owners) b) cleared-pool
-        ∙ by-range (address c a) (count c a) b
-        (λ q. mapped (unmapOwners (s .pool .owners) (address c a) (count c a)) b ≡ (mapped (s .pool .owners) b && not q))
-        (λ i h e′. ap (mapped (unmapOwners (s .pool .owners) (address c a) (count c a))) e′
-        ∙ mapped-unmap-in (s .pool .owners) (address c a) (count c a) i h ∙ sym (and-false (mapped (s .pool .owners) b)))
-        (λ out. mapped-unmap-out (s .pool .owners) (address c a) (count c a) b out ∙ sym (and-true (mapped (s .pool .owners) b)))
+    cleared-map b = ap (λ (p : Pool). mapped (p .owners) b) cleared-pool ∙ range-unmapped (s .pool .owners) (address c a) (count c a) b
 
     cleared-slots : (b : ℕ) → T (not (covers (a .request) b)) → place (suc b) (after step s c .pool .owners) ≡ place (suc b) (s .pool .owners)
     unfolding covers unmapBlocks

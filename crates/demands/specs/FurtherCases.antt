@@ -1,4 +1,4 @@
--- Further cases: the easy slips, counts, registrations, UNMAP lists, fields, flags, types, what is told, and lent buffers.
+-- Further cases: the easy slips, counts, registrations, UNMAP lists, fields, flags, types, what is told, pages, and lent buffers.
 -- Assumes nothing.
 use mathlib.Core.List.{List, [], _∷_, _++_}
 use Prim.Native.Nat.{ℕ, zero, suc, _-_}
@@ -146,7 +146,7 @@ caseFields =
     ∷ call 0 (0x01 ∷ []) [] gives refused 1 0x05 0x20 0x00
     ∷ call 0 (zeros 10) [] gives no-status 11
     ∷ call 0 (zeros 5 ++ (4 ∷ [])) [] gives refused 2 0x05 0x24 0x00
-    ∷ call 0 (0x12 ∷ 1 ∷ zeros 4) [] gives refused 2 0x05 0x24 0x00
+    ∷ call 0 (0x12 ∷ 1 ∷ 1 ∷ zeros 3) [] gives refused 2 0x05 0x24 0x00
     ∷ call 0 (0x12 ∷ 0 ∷ 1 ∷ zeros 3) [] gives refused 2 0x05 0x24 0x00
     ∷ call 0 (0x12 ∷ 0 ∷ 0 ∷ 0 ∷ 5 ∷ 0 ∷ []) [] gives good (0x00 ∷ 0x00 ∷ 0x06 ∷ 0x02 ∷ 0x1F ∷ [])
     ∷ call 0 (0x28 ∷ 0x20 ∷ zeros 8) [] gives refused 2 0x05 0x24 0x00
@@ -181,6 +181,30 @@ caseTold = caseStill (made (0 ∷ 0 ∷ []) two 3 1 9)
     ∷ call 3 (0x9E ∷ 0x10 ∷ (zeros 8 ++ (bytes 4 15 ++ zeros 2))) [] gives good capacityTold
     ∷ call 3 (0x5E ∷ 0 ∷ (zeros 5 ++ (bytes 2 12 ++ (0 ∷ [])))) [] gives good (bytes 4 9 ++ (bytes 4 16 ++ bytes 4 0))
     ∷ call 3 (0x5E ∷ 1 ∷ (zeros 5 ++ (bytes 2 22 ++ (0 ∷ [])))) [] gives good (bytes 4 9 ++ (bytes 4 16 ++ (bytes 8 0x11 ++ (zeros 5 ++ (3 ∷ []))))) ∷ [])
+
+-- INQUIRY with this byte 1, page code and allocation length
+unfoldable pub vital : ℕ → ℕ → ℕ → Call
+vital first page n = call 3 (0x12 ∷ first ∷ page ∷ (bytes 2 n ++ (0 ∷ []))) []
+
+-- page B0h: 128, FFFF_FFFFh, 16 and 128 where SBC has them, and WSNZ
+unfoldable pub limitsTold : List ℕ
+limitsTold =
+    0x00 ∷ 0xB0 ∷ 0x00 ∷ 0x3C ∷ 0x01 ∷ 0x00 ∷ 0x00 ∷ 0x00 ∷ 0x00 ∷ 0x00 ∷ 0x00 ∷ 0x80 ∷ (zeros 8
+    ++ (0xFF ∷ 0xFF ∷ 0xFF ∷ 0xFF ∷ 0x00 ∷ 0x00 ∷ 0x00 ∷ 0x10 ∷ (zeros 15 ++ (0x80 ∷ zeros 20))))
+
+-- the pages of INQUIRY, whole and cut, to a nexus that is shut out too; bit 0 of byte 1 alone asks for one
+unfoldable pub casePages : Case
+casePages = caseStill (made (0 ∷ 0 ∷ []) two 3 1 9)
+    (vital 0x01 0x00 255 gives good (0x00 ∷ 0x00 ∷ 0x00 ∷ 0x03 ∷ 0x00 ∷ 0xB0 ∷ 0xB2 ∷ [])
+    ∷ vital 0x01 0xB0 64 gives good limitsTold
+    ∷ vital 0x01 0xB2 0x0100 gives good (0x00 ∷ 0xB2 ∷ 0x00 ∷ 0x04 ∷ 0x00 ∷ 0xC4 ∷ 0x02 ∷ 0x00 ∷ [])
+    ∷ vital 0xFF 0xB0 4 gives good (0x00 ∷ 0xB0 ∷ 0x00 ∷ 0x3C ∷ [])
+    ∷ vital 0x01 0xB0 0 gives good []
+    ∷ vital 0xFE 0x00 5 gives good (0x00 ∷ 0x00 ∷ 0x06 ∷ 0x02 ∷ 0x1F ∷ [])
+    ∷ vital 0x00 0xB0 64 gives refused 2 0x05 0x24 0x00
+    ∷ vital 0x01 0x01 64 gives refused 2 0x05 0x24 0x00
+    ∷ vital 0x01 0xB1 64 gives refused 2 0x05 0x24 0x00
+    ∷ lent 63 20 3 (0x12 ∷ 1 ∷ 0xB0 ∷ 0 ∷ 64 ∷ 0 ∷ []) [] gives no-status 12 ∷ [])
 
 -- a CDB of n bytes with this code, byte 1 and control byte
 unfoldable pub controlled : ℕ → ℕ → ℕ → ℕ → Call
@@ -310,4 +334,4 @@ caseMostWritten = caseOf (freshStore 128 128 (replicate 65536 0xEE))
 unfoldable pub furtherCases : List Case
 furtherCases =
     caseCounts ∷ caseNinth ∷ caseGeneration ∷ caseGone ∷ caseShared ∷ caseZeroKey ∷ caseSlots ∷ caseUnmap ∷ caseConsidered ∷ caseFields
-    ∷ caseTold ∷ caseControl ∷ caseFirstByte ∷ caseFlags ∷ caseTypes ∷ caseLent ∷ caseMost ∷ []
+    ∷ caseTold ∷ casePages ∷ caseControl ∷ caseFirstByte ∷ caseFlags ∷ caseTypes ∷ caseLent ∷ caseMost ∷ []

@@ -19,4 +19,6 @@ pub mod ZeroKey
 pub mod WrongBuilds
 pub mod WriteSame
 pub mod MapTold
+pub mod Limits
+pub mod WrongLimits
 pub mod Proved

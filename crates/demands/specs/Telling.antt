@@ -5,10 +5,11 @@ use mathlib.Core.List.{[]}
 use lib.ListN.{take}
 use Rattle.answers.specs.declared.Answer.the-variants.{Good}
 use Rattle.forms.specs.declared.Tell.{Tell}
-use Rattle.forms.specs.declared.Tell.the-variants.{Ready, Inquiry, Capacity10, Capacity16}
+use Rattle.forms.specs.declared.Tell.the-variants.{Ready, Inquiry, VitalData, Capacity10, Capacity16}
 use Rattle.forms.specs.declared.Command.the-variants.{Tells}
 use Rattle.forms.specs.Forms.{allocationIn}
 use Rattle.store.specs.Store.{Store, Call, seenOf}
+use Rattle.store.specs.Vital.{vitalData}
 use Rattle.store.specs.Tell.{inquiryData, capacity10Data, capacity16Data}
 use Rattle.demands.specs.History.{Build, after}
 use Rattle.demands.specs.Contents.{AsksFor}
@@ -20,6 +21,9 @@ pub record Telling (f : Build) : Type 0 where
   -- "the returned bytes are the first min(allocation length, available)"
   pub inquiry : (s : Store) (c : Call) (a : AsksFor (Tells Inquiry) c) → GoodBy f s c
       → f s c .seen ≡ seenOf Good (take (allocationIn (a .request)) inquiryData) c
+  -- "Serve INQUIRY pages 00h, B0h (block limits) and B2h (logical block provisioning)"
+  pub vital : (s : Store) (c : Call) (a : AsksFor (Tells VitalData) c) → GoodBy f s c
+      → f s c .seen ≡ seenOf Good (take (allocationIn (a .request)) (vitalData (a .request .page))) c
   -- "All 8 bytes return."
   pub capacity-10 : (s : Store) (c : Call) → AsksFor (Tells Capacity10) c → GoodBy f s c
       → f s c .seen ≡ seenOf Good (capacity10Data (s .unit .capacity)) c

@@ -20,7 +20,7 @@ use Rattle.forms.specs.declared.Move.the-variants.{Read, Write, WriteSam
 use Rattle.forms.specs.declared.Command.{Command}
 use Rattle.forms.specs.declared.Command.the-variants.{Tells, Moves, Alters}
 use Rattle.forms.specs.declared.Test.{Test}
-use Rattle.forms.specs.declared.Test.the-variants.{Nothing, VitalData, Page, Protection, Count, Anchor, SameAnchor, SameCount, Scope, Kind}
+use Rattle.forms.specs.declared.Test.the-variants.{Nothing, Page, VitalPage, Protection, Count, Anchor, SameAnchor, SameCount, Scope, Kind}
 use Rattle.forms.specs.declared.Form.{Form}
 use Rattle.forms.specs.declared.Service.{Service}
 use Rattle.forms.specs.declared.Service.the-variants.{Served, Other}
@@ -60,8 +60,8 @@ row-of Unlisted cdb r e = absurd (true≢false (ap isNothing e))
 -- a number for each test, so that two can be compared
 unfoldable testNumber : Test → ℕ
 testNumber Nothing = 0
-testNumber VitalData = 1
-testNumber Page = 2
+testNumber Page = 1
+testNumber VitalPage = 2
 testNumber Protection = 3
 testNumber Count = 4
 testNumber Anchor = 5
@@ -72,8 +72,8 @@ testNumber Kind = 9
 
 unfoldable testOf : ℕ → Test
 testOf zero = Nothing
-testOf (suc zero) = VitalData
-testOf (suc (suc zero)) = Page
+testOf (suc zero) = Page
+testOf (suc (suc zero)) = VitalPage
 testOf (suc (suc (suc zero))) = Protection
 testOf (suc (suc (suc (suc zero)))) = Count
 testOf (suc (suc (suc (suc (suc zero))))) = Anchor
@@ -85,8 +85,8 @@ testOf (suc (suc (suc (suc (suc (suc (suc (suc (suc n))))))))) = Kind
 test-back : (t : Test) → testOf (testNumber t) ≡ t
 unfolding testOf testNumber
 test-back Nothing = refl
-test-back VitalData = refl
 test-back Page = refl
+test-back VitalPage = refl
 test-back Protection = refl
 test-back Count = refl
 test-back Anchor = refl

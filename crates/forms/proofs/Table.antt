@@ -5,16 +5,21 @@ use mathlib.Core.Bool.{Bool, true, false, not, _&&_, _||_, cond, true≢false}
 use mathlib.Core.List.{List, [], _∷_}
 use Prim.Native.Nat.{ℕ}
 use lib.Dec.{T, eqb, eqb→eq}
-use Rattle.fields.specs.Field.{byte}
+use Rattle.fields.specs.Field.{byte, bit}
 use Rattle.fields.proofs.Tests.{and-l, and-r, or-other, nand-rest, not-not-intro, true→T}
 use Rattle.forms.specs.declared.Command.{Command}
 use Rattle.forms.specs.declared.Command.the-variants.{Tells, Moves, Alters}
+use Rattle.forms.specs.declared.Tell.{Tell}
+use Rattle.forms.specs.declared.Tell.the-variants.{Inquiry, VitalData}
+use Rattle.forms.specs.declared.Span.the-variants.{Absent}
+use Rattle.forms.specs.declared.Test.{Test}
+use Rattle.forms.specs.declared.Test.the-variants.{Nothing, Page, VitalPage}
 use Rattle.forms.specs.declared.Form.{Form}
 use Rattle.forms.specs.declared.Service.{Service}
 use Rattle.forms.specs.declared.Service.the-variants.{Served, Other}
 use Rattle.forms.specs.declared.Entry.{Entry}
 use Rattle.forms.specs.declared.Entry.the-variants.{Listed, Unlisted}
-use Rattle.forms.specs.Forms.{Line, takes, lines, listed, lookup, entryFor, entryOf, action, requestBy, Asked, nothing, asks, askedBy, askedIn, askedOf}
+use Rattle.forms.specs.Forms.{form, two, Line, takes, lines, listed, lookup, entryFor, entryOf, action, requestBy, Asked, nothing, asks, askedBy, askedIn, askedOf}
 
 -- a test of every line
 unfoldable pub all : (Line → Bool) → List Line → Bool
@@ -60,6 +65,21 @@ lookup-passes n a e (l ∷ ls) h = go (eqb n (l .code)) (takes (l .actions) a) h
     go false z h x y = x h
     go true true h x y = absurd (true≢false h)
     go true false h x y = y h
+
+-- ---- INQUIRY: bit 0 of byte 1 asks for a page
+
+abbrev pub inquiryEntry : Tell → Test → Entry
+inquiryEntry t page = listed 6 (Served (form (Tells t) Absent (two 3) page Nothing))
+
+pub inquiry-entry : (a : ℕ) → entryFor 0x12 a ≡ cond (bit 0 a) (inquiryEntry VitalData VitalPage) (inquiryEntry Inquiry Page)
+unfolding entryFor lookup lines takes
+inquiry-entry a = go (bit 0 a)
+  where
+    go : (b : Bool)
+        → elim (not b) [ true ↦ inquiryEntry Inquiry Page | false ↦ elim b [ true ↦ inquiryEntry VitalData VitalPage | false ↦ listed 6 Other ] ]
+        ≡ cond b (inquiryEntry VitalData VitalPage) (inquiryEntry Inquiry Page)
+    go true = refl
+    go false = refl
 
 -- ---- rules
 

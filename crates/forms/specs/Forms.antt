@@ -1,13 +1,13 @@
 -- The table of commands: a row of fields for each operation code and, where it has them, service action.
 -- Assumes nothing.
-use mathlib.Core.Bool.{Bool, true, false}
+use mathlib.Core.Bool.{Bool, true, false, not}
 use mathlib.Core.List.{List, [], _∷_}
 use Prim.Native.Nat.{ℕ, _%_}
 use lib.Dec.{eqb}
-use Rattle.fields.specs.Field.{field, byte}
+use Rattle.fields.specs.Field.{field, byte, bit}
 use Rattle.rights.specs.declared.Action.{Action}
 use Rattle.rights.specs.declared.Action.the-variants.{Register, Reserve, Release, Clear, Preempt, RegisterIgnoring}
-use Rattle.forms.specs.declared.Tell.the-variants.{Ready, Inquiry, Capacity10, Capacity16, Keys, Reservation}
+use Rattle.forms.specs.declared.Tell.the-variants.{Ready, Inquiry, VitalData, Capacity10, Capacity16, Keys, Reservation}
 use Rattle.forms.specs.declared.Move.{Move}
 use Rattle.forms.specs.declared.Move.the-variants.{Read, Write, WriteSame, Unmap, Status}
 use Rattle.forms.specs.declared.Command.{Command}
@@ -17,7 +17,7 @@ use Rattle.forms.specs.declared.Field.the-variants.{Two, Four, Eight}
 use Rattle.forms.specs.declared.Span.{Span}
 use Rattle.forms.specs.declared.Span.the-variants.{Absent, At}
 use Rattle.forms.specs.declared.Test.{Test}
-use Rattle.forms.specs.declared.Test.the-variants.{Nothing, VitalData, Page, Protection, Count, Anchor, SameAnchor, SameCount, Scope, Kind}
+use Rattle.forms.specs.declared.Test.the-variants.{Nothing, Page, VitalPage, Protection, Count, Anchor, SameAnchor, SameCount, Scope, Kind}
 use Rattle.forms.specs.declared.Form.{Form}
 use Rattle.forms.specs.declared.Service.{Service}
 use Rattle.forms.specs.declared.Service.the-variants.{Served, Other}
@@ -49,14 +49,18 @@ eight at = At (Eight at)
 unfoldable pub action : List ℕ → ℕ
 action cdb = byte 1 cdb % 32
 
--- the service actions that a line takes
+-- the service actions that a line takes; INQUIRY has none, and is told apart by bit 0 of the same byte
 pub data Actions : Type 0 where
   any : Actions
   only : ℕ → Actions
+  even : Actions
+  odd : Actions
 
 unfoldable pub takes : Actions → ℕ → Bool
 takes any a = true
 takes (only b) a = eqb a b
+takes even a = not (bit 0 a)
+takes odd a = bit 0 a
 
 -- a code, the service actions of this line, how long its CDBs are, and the row
 pub record Line : Type 0 where
@@ -74,11 +78,12 @@ out a first second = form (Alters a) Absent (four 5) first second
 
 -- "Each operation code has its own row of fields": "6, 10 or 16 as its code has it", the command, the block address, the count, allocation
 -- length or list length, and the fields that can be wrong. Q-1: "Add WRITE SAME(16) (93h: address 2-9, count 10-13, …) and GET LBA STATUS
--- (9Eh, action 12h)"
+-- (9Eh, action 12h)"; Q-2: "Serve INQUIRY pages …": by bit 0 of byte 1 INQUIRY asks for its standard data or for a page
 unfoldable pub lines : List Line
 lines =
     line 0x00 any 6 (form (Tells Ready) Absent Absent Nothing Nothing)
-    ∷ line 0x12 any 6 (form (Tells Inquiry) Absent (two 3) VitalData Page)
+    ∷ line 0x12 even 6 (form (Tells Inquiry) Absent (two 3) Page Nothing)
+    ∷ line 0x12 odd 6 (form (Tells VitalData) Absent (two 3) VitalPage Nothing)
     ∷ line 0x25 any 10 (form (Tells Capacity10) Absent Absent Nothing Nothing)
     ∷ line 0x28 any 10 (form (Moves Read) (four 2) (two 7) Protection Count)
     ∷ line 0x2A any 10 (form (Moves Write) (four 2) (two 7) Protection Count)
@@ -130,13 +135,14 @@ unfoldable pub number : Span → List ℕ → ℕ
 number Absent cdb = 0
 number (At f) cdb = fieldNumber f cdb
 
--- "Byte 2: scope high half, type low half"; Q-1: "byte 1 bits … 3 UNMAP, 0 NDOB"
+-- "Byte 2: scope high half, type low half"; INQUIRY: "byte 2"; Q-1: "byte 1 bits … 3 UNMAP, 0 NDOB"
 unfoldable pub requestBy : Form → List ℕ → Request
 requestBy f cdb = record {
   command = f .command;
   address = record { 0 = number (f .address) cdb };
   size = number (f .size) cdb;
   kind = byte 2 cdb % 16;
+  page = byte 2 cdb;
   options = byte 1 cdb;
 }
 

@@ -10,9 +10,9 @@ use Rattle.answers.specs.declared.Answer.the-variants.{Unusable}
 use Rattle.answers.specs.Answers.{notListed, invalidField}
 use Rattle.answers.specs.Order.{Row, _if_}
 use Rattle.pool.specs.Bounds.{mostTransfer}
-use Rattle.rights.specs.Rights.{isType}
+use Rattle.rights.specs.Rights.{isOneOf, isType}
 use Rattle.forms.specs.declared.Test.{Test}
-use Rattle.forms.specs.declared.Test.the-variants.{Nothing, VitalData, Page, Protection, Count, Anchor, SameAnchor, SameCount, Scope, Kind}
+use Rattle.forms.specs.declared.Test.the-variants.{Nothing, Page, VitalPage, Protection, Count, Anchor, SameAnchor, SameCount, Scope, Kind}
 use Rattle.forms.specs.declared.Form.{Form}
 use Rattle.forms.specs.declared.Service.{Service}
 use Rattle.forms.specs.declared.Service.the-variants.{Served, Other}
@@ -40,12 +40,16 @@ lengthRows Unlisted cdb = []
 
 -- ---- 2
 
+-- Q-2: "Serve INQUIRY pages 00h, B0h (block limits) and B2h (logical block provisioning)"
+unfoldable pub pages : List ℕ
+pages = 0x00 ∷ 0xB0 ∷ 0xB2 ∷ []
+
 -- is this field of a CDB wrong, where n is its count, allocation length or list length
 unfoldable pub wrong : Test → ℕ → List ℕ → Bool
 wrong Nothing n cdb = false
--- INQUIRY: "byte 1 bit 0 set, or byte 2 not 0: 2"
-wrong VitalData n cdb = bit 0 (byte 1 cdb)
+-- INQUIRY: "… or byte 2 not 0: 2"; by Q-2 "bit 0 of byte 1 set gives 2 only with an unlisted page"
 wrong Page n cdb = not (eqb (byte 2 cdb) 0)
+wrong VitalPage n cdb = not (isOneOf (byte 2 cdb) pages)
 -- READ and WRITE: "Byte 1 bits 7-5 not 0, or count above 128: 2."
 wrong Protection n cdb = leb 32 (byte 1 cdb)
 wrong Count n cdb = ltb mostTransfer n

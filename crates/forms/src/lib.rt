@@ -7,6 +7,7 @@ use rights::Action;
 pub enum Tell {
     Ready,
     Inquiry,
+    VitalData,
     Capacity10,
     Capacity16,
     Keys,
@@ -45,8 +46,8 @@ pub enum Span {
 // A field of a CDB that can be wrong.
 pub enum Test {
     Nothing,
-    VitalData,
     Page,
+    VitalPage,
     Protection,
     Count,
     Anchor,
@@ -85,12 +86,13 @@ pub enum Entry {
     Unlisted,
 }
 
-// What a CDB asks for: the command, its block address, its count, allocation length or list length, the type of reservation it names, and
-// the byte whose bits say how WRITE SAME is meant.
+// What a CDB asks for: the command, its block address, its count, allocation length or list length, the type of reservation it names, the
+// page code of INQUIRY, and the byte whose bits say how WRITE SAME is meant.
 pub struct Request {
     pub command: Command,
     pub address: Lba,
     pub size: u64,
     pub kind: u32,
+    pub page: u8,
     pub options: u8,
 }

@@ -14,7 +14,7 @@ use Rattle.rights.specs.Places.{registered}
 use Rattle.rights.specs.Rights.{isOneOf, isType, oneHolds, allHold, holds}
 use Rattle.rights.proofs.Types.{sixTypes, every, every-one, agreesUnder, agree-under}
 use Rattle.forms.specs.declared.Tell.{Tell}
-use Rattle.forms.specs.declared.Tell.the-variants.{Ready, Inquiry, Capacity10, Capacity16, Keys, Reservation}
+use Rattle.forms.specs.declared.Tell.the-variants.{Ready, Inquiry, VitalData, Capacity10, Capacity16, Keys, Reservation}
 use Rattle.forms.specs.declared.Move.{Move}
 use Rattle.forms.specs.declared.Move.the-variants.{Read, Write, WriteSame, Unmap, Status}
 use Rattle.forms.specs.declared.Command.{Command}
@@ -24,21 +24,22 @@ use Rattle.store.specs.declared.Column.the-variants.{Free, At}
 use Rattle.store.specs.Conflict.{columnUnder, columnOf, row, says, conflict, shutOut, passes, stops, ruled}
 
 -- what holds of each row holds of every command
-pub by-row : (P : Command → Type 0) → P (Moves Status) → P (Tells Inquiry) → P (Tells Keys) → P (Tells Reservation)
+pub by-row : (P : Command → Type 0) → P (Moves Status) → P (Tells Inquiry) → P (Tells VitalData) → P (Tells Keys) → P (Tells Reservation)
     → ((a : Action) → P (Alters a)) → P (Moves Read) → P (Tells Capacity10) → P (Tells Capacity16) → P (Tells Ready) → P (Moves Unmap)
     → P (Moves Write) → P (Moves WriteSame) → (k : Command) → P k
-by-row P s i k r out read c10 c16 t u w ws (Moves Status) = s
-by-row P s i k r out read c10 c16 t u w ws (Tells Inquiry) = i
-by-row P s i k r out read c10 c16 t u w ws (Tells Keys) = k
-by-row P s i k r out read c10 c16 t u w ws (Tells Reservation) = r
-by-row P s i k r out read c10 c16 t u w ws (Alters a) = out a
-by-row P s i k r out read c10 c16 t u w ws (Moves Read) = read
-by-row P s i k r out read c10 c16 t u w ws (Tells Capacity10) = c10
-by-row P s i k r out read c10 c16 t u w ws (Tells Capacity16) = c16
-by-row P s i k r out read c10 c16 t u w ws (Tells Ready) = t
-by-row P s i k r out read c10 c16 t u w ws (Moves Unmap) = u
-by-row P s i k r out read c10 c16 t u w ws (Moves Write) = w
-by-row P s i k r out read c10 c16 t u w ws (Moves WriteSame) = ws
+by-row P s i v k r out read c10 c16 t u w ws (Moves Status) = s
+by-row P s i v k r out read c10 c16 t u w ws (Tells Inquiry) = i
+by-row P s i v k r out read c10 c16 t u w ws (Tells VitalData) = v
+by-row P s i v k r out read c10 c16 t u w ws (Tells Keys) = k
+by-row P s i v k r out read c10 c16 t u w ws (Tells Reservation) = r
+by-row P s i v k r out read c10 c16 t u w ws (Alters a) = out a
+by-row P s i v k r out read c10 c16 t u w ws (Moves Read) = read
+by-row P s i v k r out read c10 c16 t u w ws (Tells Capacity10) = c10
+by-row P s i v k r out read c10 c16 t u w ws (Tells Capacity16) = c16
+by-row P s i v k r out read c10 c16 t u w ws (Tells Ready) = t
+by-row P s i v k r out read c10 c16 t u w ws (Moves Unmap) = u
+by-row P s i v k r out read c10 c16 t u w ws (Moves Write) = w
+by-row P s i v k r out read c10 c16 t u w ws (Moves WriteSame) = ws
 
 -- ---- the table and the rule, by the type, whether the holder field names the sender, and whether the sender is registered
 
@@ -56,7 +57,7 @@ ruleBy k kind named known = stops kind k && not (holdsBy kind named known || (is
 row-agrees : (k : Command) → T (every (agreesUnder (tableBy k) (ruleBy k)) sixTypes)
 unfolding every agreesUnder agree tableBy ruleBy holdsBy isOneOf oneHolds allHold isType stops columnUnder row says
 row-agrees =
-    by-row (λ k. T (every (agreesUnder (tableBy k) (ruleBy k)) sixTypes)) tt tt tt tt (λ _. tt) tt tt tt tt tt tt tt
+    by-row (λ k. T (every (agreesUnder (tableBy k) (ruleBy k)) sixTypes)) tt tt tt tt tt (λ _. tt) tt tt tt tt tt tt tt
 
 typed : (k : Command) (kind : ℕ) (named known : Bool) → T (isType kind) → tableBy k kind named known ≡ ruleBy k kind named known
 unfolding isType
@@ -165,4 +166,4 @@ column-listed r n column e = ltb→lt column 5 (subst (λ (x : Column). T (insid
 
 pub row-whole : (k : Command) → length (row k) ≡ 5
 unfolding row
-row-whole = by-row (λ k. length (row k) ≡ 5) refl refl refl refl (λ _. refl) refl refl refl refl refl refl refl
+row-whole = by-row (λ k. length (row k) ≡ 5) refl refl refl refl refl (λ _. refl) refl refl refl refl refl refl refl

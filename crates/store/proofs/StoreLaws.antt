@@ -13,7 +13,7 @@ use Rattle.rights.specs.Actions.{acted}
 use Rattle.forms.specs.declared.Command.{Command}
 use Rattle.forms.specs.declared.Command.the-variants.{Tells, Moves, Alters}
 use Rattle.forms.specs.declared.Request.{Request}
-use Rattle.forms.specs.Forms.{Asked, nothing, asks, askedOf, allocationIn}
+use Rattle.forms.specs.Forms.{Asked, nothing, asks, askedOf}
 use Rattle.forms.proofs.Table.{isMoves, isAlters, movesIn, altersIn}
 use Rattle.store.specs.declared.Unit.{Unit}
 use Rattle.store.specs.Store.{Store, Call, withRights, leaves, seenOf}
@@ -72,7 +72,7 @@ step-ways P s c done kept =
 
 pub command-rows : (k : Command) (q : Request) (s t : Store) (c : Call) → T (not (isMoves k)) → s .unit ≡ t .unit → commandRows k q s c ≡ commandRows k q t c
 unfolding commandRows isMoves
-command-rows (Tells x) q s t c h e = ap (λ (u : Unit). tellRows x (allocationIn q) u (c .dataIn)) e
+command-rows (Tells x) q s t c h e = ap (λ (u : Unit). tellRows x q u (c .dataIn)) e
 command-rows (Moves m) q s t c h e = absurd h
 command-rows (Alters a) q s t c h e = ap (λ (u : Unit). alterRows a q (u .rights) (c .nexus) (c .dataOut)) e
 
@@ -83,7 +83,7 @@ unit-rows (asks q) s t c h e = command-rows (q .command) q s t c h e
 
 pub command-data : (k : Command) (q : Request) (s t : Store) → T (not (isMoves k)) → s .unit ≡ t .unit → commandData k q s ≡ commandData k q t
 unfolding commandData isMoves
-command-data (Tells x) q s t h e = ap (λ (u : Unit). told x (allocationIn q) u) e
+command-data (Tells x) q s t h e = ap (λ (u : Unit). told x q u) e
 command-data (Moves m) q s t h e = absurd h
 command-data (Alters a) q s t h e = refl
 

@@ -8,7 +8,7 @@ use lib.ListN.{getD}
 use Rattle.rights.specs.declared.Rights.{Rights}
 use Rattle.rights.specs.Places.{registered}
 use Rattle.rights.specs.Rights.{isOneOf, isType, holds}
-use Rattle.forms.specs.declared.Tell.the-variants.{Ready, Inquiry, Capacity10, Capacity16, Keys, Reservation}
+use Rattle.forms.specs.declared.Tell.the-variants.{Ready, Inquiry, VitalData, Capacity10, Capacity16, Keys, Reservation}
 use Rattle.forms.specs.declared.Move.the-variants.{Read, Write, WriteSame, Unmap, Status}
 use Rattle.forms.specs.declared.Command.{Command}
 use Rattle.forms.specs.declared.Command.the-variants.{Tells, Moves, Alters}
@@ -63,6 +63,7 @@ cells a b c d e = a ∷ b ∷ c ∷ d ∷ e ∷ []
 unfoldable pub row : Command → List Bool
 row (Moves Status) = cells Allowed Conflict Allowed Allowed Conflict  -- GET LBA STATUS
 row (Tells Inquiry) = cells Allowed Allowed Allowed Allowed Allowed  -- INQUIRY
+row (Tells VitalData) = cells Allowed Allowed Allowed Allowed Allowed  -- the same, of a page
 row (Tells Keys) = cells Allowed Allowed Allowed Allowed Allowed  -- PERSISTENT RESERVE IN, READ KEYS
 row (Tells Reservation) = cells Allowed Allowed Allowed Allowed Allowed  -- PERSISTENT RESERVE IN, READ RESERVATION
 row (Alters action) = cells Allowed Allowed Allowed Allowed Allowed  -- PERSISTENT RESERVE OUT

@@ -1,4 +1,5 @@
 pub mod Store
+pub mod Vital
 pub mod Tell
 pub mod Same
 pub mod Move

@@ -16,7 +16,7 @@ use Rattle.forms.specs.declared.Command.{Command}
 use Rattle.forms.specs.declared.Command.the-variants.{Tells, Moves, Alters}
 use Rattle.forms.specs.declared.Entry.{Entry}
 use Rattle.forms.specs.declared.Request.{Request}
-use Rattle.forms.specs.Forms.{entryOf, Asked, nothing, asks, askedIn, allocationIn}
+use Rattle.forms.specs.Forms.{entryOf, Asked, nothing, asks, askedIn}
 use Rattle.forms.specs.Tests.{codeRows, lengthRows, fieldRows}
 use Rattle.store.specs.Store.{Store, Call, Result, withRights, withUnit, withPool, usable, leaves, seenOf}
 use Rattle.store.specs.Tell.{told, tellRows}
@@ -49,7 +49,7 @@ stageRows e r n cdb = codeRows e ++ (lengthRows e cdb ++ (fieldRows e cdb ++ gua
 
 -- "Then:" each command's own
 unfoldable pub commandRows : Command → Request → Store → Call → List Row
-commandRows (Tells t) q s c = tellRows t (allocationIn q) (s .unit) (c .dataIn)
+commandRows (Tells t) q s c = tellRows t q (s .unit) (c .dataIn)
 commandRows (Moves m) q s c = moveRows m q (s .unit .capacity) (s .pool) c
 commandRows (Alters a) q s c = alterRows a q (s .unit .rights) (c .nexus) (c .dataOut)
 
@@ -65,7 +65,7 @@ answerBy e s c =
 
 -- the bytes returned
 unfoldable pub commandData : Command → Request → Store → List ℕ
-commandData (Tells t) q s = told t (allocationIn q) (s .unit)
+commandData (Tells t) q s = told t q (s .unit)
 commandData (Moves m) q s = fetched m q (s .unit .capacity) (s .pool)
 commandData (Alters a) q s = []
 

@@ -1,6 +1,7 @@
-// The parameter data of INQUIRY and READ CAPACITY.
+// The parameter data of INQUIRY, its pages, and READ CAPACITY.
 ghost use mathlib.Core.Path.{_≡_};
 ghost use Prim.Native.Nat.{_≤_, min};
+ghost use Rattle.store.specs.Vital.{pagesPage, limitsPage, provisioningPage};
 ghost use Rattle.store.specs.Tell.{inquiryData, capacity10Data, capacity16Data};
 
 pub fn inquiry() -> [u8; 36]
@@ -44,6 +45,38 @@ pub fn inquiry() -> [u8; 36]
         0x30,
         0x30,
     ]
+}
+
+// Page 00h: the pages there are.
+pub fn supported() -> [u8; 7]
+    ensures { λ r. ⌜ r ≡ pagesPage ⌝ }
+{
+    [0x00, 0x00, 0x00, 0x03, 0x00, 0xB0, 0xB2]
+}
+
+// Page B0h: WSNZ and five limits; all others are 0.
+pub fn block_limits() -> [u8; 64]
+    ensures { λ r. ⌜ r ≡ limitsPage ⌝ }
+{
+    let mut page = [0; 64];
+    page[1] = 0xB0;
+    page[3] = 60;
+    page[4] = 0x01; // WSNZ
+    page[11] = 128; // MAXIMUM TRANSFER LENGTH
+    page[20] = 0xFF; // MAXIMUM UNMAP LBA COUNT
+    page[21] = 0xFF;
+    page[22] = 0xFF;
+    page[23] = 0xFF;
+    page[27] = 16; // MAXIMUM UNMAP BLOCK DESCRIPTOR COUNT
+    page[43] = 128; // MAXIMUM WRITE SAME LENGTH
+    page
+}
+
+// Page B2h: LBPU, LBPWS and LBPRZ 001b; thin.
+pub fn provisioning() -> [u8; 8]
+    ensures { λ r. ⌜ r ≡ provisioningPage ⌝ }
+{
+    [0x00, 0xB2, 0x00, 0x04, 0x00, 0xC4, 0x02, 0x00]
 }
 
 // The last address as 32 bits show it: FFFF_FFFFh where it is larger.

@@ -26,11 +26,11 @@ enum-told-5 c = search needs
 enum-told-6 : tie.Need-enum-told-6
 enum-told-6 c = search needs
 
-enum-known-command-2 : tie.Need-enum-known-command-2
-enum-known-command-2 c = search needs
-
 enum-told-7 : tie.Need-enum-told-7
 enum-told-7 c = search needs
+
+enum-known-command-2 : tie.Need-enum-known-command-2
+enum-known-command-2 c = search needs
 
 enum-told-8 : tie.Need-enum-told-8
 enum-told-8 c = search needs
@@ -46,6 +46,9 @@ enum-told-11 c = search needs
 
 enum-told-12 : tie.Need-enum-told-12
 enum-told-12 c = search needs
+
+enum-told-13 : tie.Need-enum-told-13
+enum-told-13 c = search needs
 
 returns : tie.Need-returns
 unfolding numberOf
@@ -73,7 +76,7 @@ returns-6 c = rw (c .before .before .before .command .given .1, c .enum-told6 .g
 
 returns-7 : tie.Need-returns-7
 unfolding numberOf
-returns-7 c = rw (c .before .before .before .command2 .given .1, c .enum-told7 .given .1)
+returns-7 c = rw (c .before .before .before .command .given .1, c .enum-told7 .given .1)
 
 returns-8 : tie.Need-returns-8
 unfolding numberOf
@@ -93,7 +96,11 @@ returns-11 c = rw (c .before .before .before .command2 .given .1, c .enum-told11
 
 returns-12 : tie.Need-returns-12
 unfolding numberOf
-returns-12 c = rw (c .enum-told12 .given .1)
+returns-12 c = rw (c .before .before .before .command2 .given .1, c .enum-told12 .given .1)
+
+returns-13 : tie.Need-returns-13
+unfolding numberOf
+returns-13 c = rw (c .enum-told13 .given .1)
 
 pub number-of-spec : {M : Type 1} → statement M
 number-of-spec =
@@ -106,13 +113,14 @@ number-of-spec =
     enum-told-4
     enum-told-5
     enum-told-6
-    enum-known-command-2
     enum-told-7
+    enum-known-command-2
     enum-told-8
     enum-told-9
     enum-told-10
     enum-told-11
     enum-told-12
+    enum-told-13
     returns
     returns-2
     returns-3
@@ -124,4 +132,5 @@ number-of-spec =
     returns-9
     returns-10
     returns-11
-    returns-12)
+    returns-12
+    returns-13)

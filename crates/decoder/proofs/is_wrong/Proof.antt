@@ -16,14 +16,14 @@ enum-told-2 c = search needs
 byte-requires : tie.Need-byte-requires
 byte-requires c κs = search needs
 
-bit-requires : tie.Need-bit-requires
-bit-requires c κs = search needs
-
 enum-told-3 : tie.Need-enum-told-3
 enum-told-3 c = search needs
 
 byte-requires-2 : tie.Need-byte-requires-2
 byte-requires-2 c κs = search needs
+
+is-page-requires : tie.Need-is-page-requires
+is-page-requires c κs = search needs
 
 enum-told-4 : tie.Need-enum-told-4
 enum-told-4 c = search needs
@@ -40,8 +40,8 @@ enum-told-6 c = search needs
 byte-requires-4 : tie.Need-byte-requires-4
 byte-requires-4 c κs = search needs
 
-bit-requires-2 : tie.Need-bit-requires-2
-bit-requires-2 c κs = search needs
+bit-requires : tie.Need-bit-requires
+bit-requires c κs = search needs
 
 enum-told-7 : tie.Need-enum-told-7
 enum-told-7 c = search needs
@@ -49,8 +49,8 @@ enum-told-7 c = search needs
 byte-requires-5 : tie.Need-byte-requires-5
 byte-requires-5 c κs = search needs
 
-bit-requires-3 : tie.Need-bit-requires-3
-bit-requires-3 c κs = search needs
+bit-requires-2 : tie.Need-bit-requires-2
+bit-requires-2 c κs = search needs
 
 enum-told-8 : tie.Need-enum-told-8
 enum-told-8 c = search needs
@@ -76,11 +76,11 @@ returns c = simp (c .enum-told .given .1)
 
 returns-2 : tie.Need-returns-2
 unfolding wrong
-returns-2 c = simp (c .before .before .enum-told2 .given .1, sym (c .before .byte .ensures)) (c .bit .ensures)
+returns-2 c = simp (c .before .enum-told2 .given .1, sym (c .byte .ensures))
 
 returns-3 : tie.Need-returns-3
 unfolding wrong
-returns-3 c = simp (c .before .enum-told3 .given .1, sym (c .byte2 .ensures))
+returns-3 c = simp (c .before .before .enum-told3 .given .1, sym (c .before .byte2 .ensures)) (ap not (c .is-page .ensures))
 
 returns-4 : tie.Need-returns-4
 unfolding wrong
@@ -92,11 +92,11 @@ returns-5 c = simp (c .enum-told5 .given .1)
 
 returns-6 : tie.Need-returns-6
 unfolding wrong
-returns-6 c = simp (c .before .before .enum-told6 .given .1, sym (c .before .byte4 .ensures)) (c .bit2 .ensures)
+returns-6 c = simp (c .before .before .enum-told6 .given .1, sym (c .before .byte4 .ensures)) (c .bit .ensures)
 
 returns-7 : tie.Need-returns-7
 unfolding wrong
-returns-7 c = simp (c .before .before .enum-told7 .given .1, sym (c .before .byte5 .ensures)) (c .bit3 .ensures)
+returns-7 c = simp (c .before .before .enum-told7 .given .1, sym (c .before .byte5 .ensures)) (c .bit2 .ensures)
 
 returns-8 : tie.Need-returns-8
 unfolding wrong
@@ -117,18 +117,18 @@ is-wrong-spec =
     enum-told
     enum-told-2
     byte-requires
-    bit-requires
     enum-told-3
     byte-requires-2
+    is-page-requires
     enum-told-4
     byte-requires-3
     enum-told-5
     enum-told-6
     byte-requires-4
-    bit-requires-2
+    bit-requires
     enum-told-7
     byte-requires-5
-    bit-requires-3
+    bit-requires-2
     enum-told-8
     enum-told-9
     byte-requires-6

@@ -12,8 +12,8 @@ use Rattle.decoder.proofs.codes.entry_for.Reads as reads
 plain-requires : tie.Need-plain-requires
 plain-requires c κs = search needs
 
-line-requires : tie.Need-line-requires
-line-requires c κs = search needs
+inquiry-requires : tie.Need-inquiry-requires
+inquiry-requires c κs = search needs
 
 plain-requires-2 : tie.Need-plain-requires-2
 plain-requires-2 c κs = search needs
@@ -24,8 +24,8 @@ transfer10-requires c κs = search needs
 transfer10-requires-2 : tie.Need-transfer10-requires-2
 transfer10-requires-2 c κs = search needs
 
-line-requires-2 : tie.Need-line-requires-2
-line-requires-2 c κs = search needs
+line-requires : tie.Need-line-requires
+line-requires c κs = search needs
 
 reserve-in-requires : tie.Need-reserve-in-requires
 reserve-in-requires c κs = search needs
@@ -50,8 +50,7 @@ unfolding entryFor lookup lines takes
 returns c = simp (c .plain .ensures, c .before .match .keys1)
 
 returns-2 : tie.Need-returns-2
-unfolding entryFor lookup lines takes
-returns-2 c = simp (c .line .ensures, c .before .match .keys2)
+returns-2 c = simp (c .inquiry .ensures, c .before .match .keys2)
 
 returns-3 : tie.Need-returns-3
 unfolding entryFor lookup lines takes
@@ -67,7 +66,7 @@ returns-5 c = simp (c .transfer102 .ensures, c .before .match .keys5)
 
 returns-6 : tie.Need-returns-6
 unfolding entryFor lookup lines takes
-returns-6 c = simp (c .line2 .ensures, c .before .match .keys6)
+returns-6 c = simp (c .line .ensures, c .before .match .keys6)
 
 returns-7 : tie.Need-returns-7
 returns-7 c = simp (c .reserve-in .ensures, c .before .match .keys7)
@@ -103,11 +102,11 @@ entry-for-spec =
     tie.close
     (tie.spec
     plain-requires
-    line-requires
+    inquiry-requires
     plain-requires-2
     transfer10-requires
     transfer10-requires-2
-    line-requires-2
+    line-requires
     reserve-in-requires
     reserve-out-requires
     transfer16-requires

@@ -9,7 +9,7 @@ use Rattle.order.proofs.OrderLaws as Laws
 use Rattle.answers.specs.declared.Answer.{Answer}
 use Rattle.answers.specs.declared.Answer.the-variants.{Good, Refused, Conflict, Unusable, Short}
 use Rattle.answers.specs.Answers.{notListed, invalidField, outOfRange, listLength, listField, noPlace, otherType, noRoom, codesOf, numberOf}
-use Rattle.answers.specs.Order.{Row, _if_, refuses, first, next, ifGood, refusing}
+use Rattle.answers.specs.Order.{Row, _if_, refuses, first, next, ifGood, refusing, refusingBy}
 
 good-alone : (a : Answer) → refuses a ≡ false → a ≡ Good
 unfolding refuses
@@ -77,6 +77,15 @@ refusing-append = Laws.refusing-append refuses
 -- rows one after another are one order after another
 pub first-append : (xs ys : List Row) → T (refusing xs) → first (xs ++ ys) ≡ next (first xs) (first ys)
 first-append = Laws.first-append one-good
+
+-- ---- a rule of answers
+
+module _ (P : Answer → Bool) where
+  pub first-obeys : (rows : List Row) → T (P Good) → T (refusingBy P rows) → T (P (first rows))
+  first-obeys = Laws.first-obeys P Good
+
+  pub next-obeys : (a b : Answer) → T (P a) → T (P b) → T (P (next a b))
+  next-obeys = Laws.next-obeys P refuses
 
 -- ---- what is done, and what is kept
 

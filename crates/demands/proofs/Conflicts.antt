@@ -2,14 +2,15 @@
 -- Assumes nothing.
 use mathlib.Core.Path.{_≡_, sym, _∙_, subst}
 use mathlib.Core.Logic.{_↔_, _≢_}
-use mathlib.Core.Bool.{Bool, true, false, not, cond}
-use mathlib.Core.List.{List, [], _∷_}
+use mathlib.Core.Bool.{Bool, true, false, cond}
+use mathlib.Core.List.{List}
 use Prim.Native.Nat.{ℕ}
 use lib.Dec.{T, T-not, eqb}
-use Rattle.fields.proofs.Tests.{and-l, and-r, test, by-test, T-true, T-false, false→T, agree}
+use Rattle.fields.proofs.Tests.{test, T-true, T-false, false→T, agree}
 use Rattle.answers.specs.declared.Answer.{Answer}
 use Rattle.answers.specs.declared.Answer.the-variants.{Good, Refused, Conflict, Unusable, Short}
-use Rattle.answers.specs.Order.{Row, _if_, first, next, refuses, firstOf, nextBy, refusingBy}
+use Rattle.answers.specs.Order.{Row, first, next, firstOf, refusingBy}
+use Rattle.answers.proofs.OrderLaws.{first-obeys, next-obeys}
 use Rattle.rights.specs.declared.Action.{Action}
 use Rattle.rights.specs.Places.{registered}
 use Rattle.rights.specs.Rights.{isOneOf, isType, oneHolds, allHold, holds}
@@ -56,15 +57,11 @@ abbrev noTen : List Row → Bool
 noTen = refusingBy notTen
 
 first-none : (rows : List Row) → T (noTen rows) → T (notTen (first rows))
-unfolding firstOf refusingBy notTen
-first-none [] t = tt
-first-none ((a if b) ∷ rows) t =
-    by-test b (λ x. T (notTen (elim x [ true ↦ a | false ↦ firstOf Good rows ]))) (λ _. and-l (notTen a) (noTen rows) t)
-    (λ _. first-none rows (and-r (notTen a) (noTen rows) t))
+unfolding notTen
+first-none rows t = first-obeys notTen rows tt t
 
 next-none : (a b : Answer) → T (notTen a) → T (notTen b) → T (notTen (next a b))
-unfolding nextBy
-next-none a b s t = by-test (refuses a) (λ x. T (notTen (cond x a b))) (λ _. s) (λ _. t)
+next-none = next-obeys notTen
 
 none-ten : (a : Answer) → T (notTen a) → a ≢ Conflict
 unfolding notTen

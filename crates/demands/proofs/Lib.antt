@@ -16,6 +16,7 @@ pub mod Unmaps
 pub mod WhenGood
 pub mod Checking
 pub mod Slots
+pub mod Fielded
 pub mod Widths
 pub mod Storage
 pub mod FromFresh
@@ -28,6 +29,9 @@ pub mod TakenOver
 pub mod WrongBuilds
 pub mod WriteSame
 pub mod MapTold
+pub mod PagesRead
+pub mod FieldLimits
 pub mod BlockLimits
+pub mod Limits
 pub mod WrongLimits
 pub mod Proved

@@ -13,7 +13,7 @@ use Rattle.forms.specs.declared.Move.{Move}
 use Rattle.forms.specs.declared.Move.the-variants.{Read, Write, WriteSame, Unmap, Status}
 use Rattle.forms.specs.declared.Command.the-variants.{Moves}
 use Rattle.forms.specs.Forms.{askedOf, countIn}
-use Rattle.forms.proofs.Fields.{isTransfer as isTransferCommand, isCounted, asked-fits}
+use Rattle.forms.proofs.Fields.{isCounted, asked-fits}
 use Rattle.store.specs.Store.{Store, Call, withPool, usable, seenOf}
 use Rattle.store.specs.Conflict.{conflict}
 use Rattle.store.specs.Move.{moveRows, moved, fetched}
@@ -83,15 +83,6 @@ module _ (m : Move) (s : Store) (c : Call) (a : Asks m c) (e : IsGood s c) where
 -- the unit's record is left by every call on the blocks
 pub moves-unit : (m : Move) (s : Store) (c : Call) → Asks m c → after step s c .unit ≡ s .unit
 moves-unit m s c a = after-ways s c (λ t. t .unit ≡ s .unit) (λ e. ap (λ (t : Store). t .unit) (good-after m s c a e)) refl
-
--- READ and WRITE, as moves and as commands
-pub transfer-command : (m : Move) → T (isTransfer m) → T (isTransferCommand (Moves m))
-unfolding isTransfer isTransferCommand
-transfer-command Read t = tt
-transfer-command Write t = tt
-transfer-command WriteSame t = absurd t
-transfer-command Unmap t = absurd t
-transfer-command Status t = absurd t
 
 counted-command : (m : Move) → T (isTransfer m) → T (isCounted (Moves m))
 unfolding isTransfer isCounted

@@ -13,6 +13,7 @@ use Rattle.demands.proofs.TakenOver.{fresh-taken-over}
 use Rattle.demands.proofs.Telling.{telling}
 use Rattle.demands.proofs.WriteSame.{writes-same}
 use Rattle.demands.proofs.MapTold.{map-told}
+use Rattle.demands.proofs.Limits.{limits}
 use Rattle.demands.proofs.FromFresh.{from-fresh}
 use Rattle.demands.proofs.Demand3.{demand-3, secrecy}
 use Rattle.demands.proofs.AtC.{faithful, demand-1-at-c, demand-3-at-c}
@@ -31,6 +32,7 @@ proved = record {
   writes-same = writes-same;
   map-told = map-told;
   one-page = tells-only;
+  limits = limits;
   from-fresh = from-fresh;
   taken-over = fresh-taken-over;
   demand-3 = demand-3;

@@ -6,8 +6,8 @@ use mathlib.Core.List.{List, [], _∷_, _++_}
 use Prim.Native.Nat.{ℕ, _+_, _-_, _^_, _<_}
 use native.Mathlib.Omega.{arith}
 use native.Mathlib.Nat.{add-zero, mod-eq-of-lt, lt-of-lt-of-le}
-use borrow.Author.Tests.{ne-eqb, eq-eqb}
-use lib.Dec.{T, eqb, leb, ltb, lit≤}
+use borrow.Author.Tests.{ne-eqb}
+use lib.Dec.{T, leb, ltb, lit≤}
 use lib.ListN.{length}
 use lib.Seq.{drop-at}
 use Rattle.fields.specs.Bytes.{zeros}
@@ -15,61 +15,45 @@ use Rattle.fields.specs.Field.{byte, bit, field, bytes}
 use Rattle.fields.proofs.BytesLaws.{length-zeros}
 use Rattle.fields.proofs.FieldLaws.{field-drop, field-bytes, length-bytes}
 use Rattle.answers.specs.declared.Answer.{Answer}
-use Rattle.answers.specs.declared.Answer.the-variants.{Unusable}
-use Rattle.answers.specs.Answers.{notListed, invalidField}
+use Rattle.answers.specs.Answers.{invalidField}
 use Rattle.answers.specs.Order.{_if_}
 use Rattle.pool.specs.Bounds.{mostTransfer}
 use Rattle.pool.specs.Pool.{Pool}
 use Rattle.forms.specs.declared.Move.{Move}
 use Rattle.forms.specs.declared.Move.the-variants.{Read, Write, WriteSame, Unmap, Status}
 use Rattle.forms.specs.declared.Command.the-variants.{Moves}
-use Rattle.forms.specs.declared.Test.the-variants.{Protection, Count}
+use Rattle.forms.specs.declared.Test.the-variants.{Nothing, Protection, Count}
 use Rattle.forms.specs.declared.Form.{Form}
 use Rattle.forms.specs.declared.Service.the-variants.{Served}
 use Rattle.forms.specs.declared.Entry.{Entry}
 use Rattle.forms.specs.declared.Request.{Request}
 use Rattle.forms.specs.Forms.{two, four, eight, fieldNumber, form, action, takes, lines, listed, lookup, entryFor, entryOf, number, requestBy, askedBy, askedIn, askedOf, countIn}
-use Rattle.forms.specs.Tests.{isUnlisted, codeRows, lengthRows, fieldRows}
-use Rattle.forms.proofs.Fields.{isTransfer as isTransferCommand, Row, row-long, transfer-fields, asked-row}
+use Rattle.forms.specs.Tests.{wrong, fieldRows}
+use Rattle.forms.proofs.Fields.{testsOf}
 use Rattle.store.specs.Store.{Store, Call, Seen, withPool, leaves, seenOf}
 use Rattle.store.specs.Move.{moveRows, moved, fetched}
 use Rattle.store.specs.Step.{callRows, step}
 use Rattle.store.proofs.Parts.{SameRows, same-answer}
 use Rattle.store.proofs.StoreLaws.{step-seen, step-store}
 use Rattle.demands.specs.Contents.{Asks, SameRange, isTransfer, longOf, control, SaysSame, transferCdb, cdb10, cdb16, callWith}
-use Rattle.demands.proofs.Moving.{asks-guard, asks-rows, asks-data, asks-store, transfer-command}
+use Rattle.demands.proofs.Moving.{asks-guard, asks-rows, asks-data, asks-store}
+use Rattle.demands.proofs.Fielded.{code-rows, not-empty, length-rows, move-rows}
 
--- ---- one CDB by its row: it is as long as its code has it, its code is listed, and its fields are three
+-- ---- one CDB by its row
 
-module _ (m : Move) (t : T (isTransfer m)) (c : Call) (a : Asks m c) where
-  row : Row (entryOf (c .cdb)) (c .cdb) (a .request)
-  row = asked-row (c .cdb) (a .request) (a .is)
+transfer-tests : (m : Move) → T (isTransfer m) → testsOf m ≡ (Protection, Count, Nothing)
+unfolding isTransfer testsOf
+transfer-tests Read t = refl
+transfer-tests Write t = refl
+transfer-tests WriteSame t = absurd t
+transfer-tests Unmap t = absurd t
+transfer-tests Status t = absurd t
 
-  transfers : T (isTransferCommand (a .request .command))
-  transfers = rw (a .command) (transfer-command m t)
-
-  long-is : longOf (entryOf (c .cdb)) ≡ row .long
-  unfolding longOf
-  long-is = ap longOf (row .entry)
-
-  not-empty : length (c .cdb) ≡ longOf (entryOf (c .cdb)) → eqb (length (c .cdb)) 0 ≡ false
-  not-empty l =
-      let least = row-long (c .cdb) (a .request) row in
-      let whole = l ∙ long-is in
-      ne-eqb (length (c .cdb)) 0 (omega arith)
-
-  code-rows : codeRows (entryOf (c .cdb)) ≡ notListed if false ∷ []
-  unfolding codeRows isUnlisted
-  code-rows = ap codeRows (row .entry)
-
-  length-rows : length (c .cdb) ≡ longOf (entryOf (c .cdb)) → lengthRows (entryOf (c .cdb)) (c .cdb) ≡ Unusable if false ∷ []
-  unfolding lengthRows
-  length-rows l = rw (row .entry, eq-eqb _ _ (l ∙ long-is))
-
-  field-rows : fieldRows (entryOf (c .cdb)) (c .cdb)
-      ≡ invalidField if bit 2 (control c) ∷ invalidField if leb 32 (byte 1 (c .cdb)) ∷ invalidField if ltb mostTransfer (countIn (a .request))
-      ∷ invalidField if false ∷ []
-  field-rows = transfer-fields (c .cdb) (a .request) row transfers ∙ rw long-is
+pub field-rows : (m : Move) → T (isTransfer m) → (c : Call) (a : Asks m c) → fieldRows (entryOf (c .cdb)) (c .cdb)
+    ≡ invalidField if bit 2 (control c) ∷ invalidField if leb 32 (byte 1 (c .cdb)) ∷ invalidField if ltb mostTransfer (countIn (a .request))
+    ∷ invalidField if false ∷ []
+unfolding wrong
+field-rows m t c a = move-rows m c a ∙ rw (transfer-tests m t)
 
 -- ---- the same requests
 
@@ -103,7 +87,10 @@ module _ (p q : Request) (e : SameRange p q) (c d : Call) (i : c .dataIn ≡ d .
 module _ (m : Move) (t : T (isTransfer m)) (s : Store) (c d : Call) (a : Asks m c) (b : Asks m d) (e : SaysSame a b) where
   call-same : callRows c ≡ callRows d
   unfolding callRows
-  call-same = rw (e .nexus, not-empty m t c a (e .first-long), not-empty m t d b (e .second-long), e .sense)
+  call-same =
+      let p = not-empty a (e .first-long) in
+      let q = not-empty b (e .second-long) in
+      rw (e .nexus, ne-eqb (length (c .cdb)) 0 (omega arith), ne-eqb (length (d .cdb)) 0 (omega arith), e .sense)
 
   field-same : fieldRows (entryOf (c .cdb)) (c .cdb) ≡ fieldRows (entryOf (d .cdb)) (d .cdb)
   field-same = field-rows m t c a ∙ rw (e .naca, e .flags, e .range .count) (sym (field-rows m t d b))
@@ -111,8 +98,8 @@ module _ (m : Move) (t : T (isTransfer m)) (s : Store) (c d : Call) (a : Asks m 
   rows-agree : SameRows s c d
   rows-agree = record {
     call = call-same;
-    code = code-rows m t c a ∙ sym (code-rows m t d b);
-    length = length-rows m t c a (e .first-long) ∙ sym (length-rows m t d b (e .second-long));
+    code = code-rows a ∙ sym (code-rows b);
+    length = length-rows a (e .first-long) ∙ sym (length-rows b (e .second-long));
     fields = field-same;
     guard = asks-guard m c a (s .unit .rights) (c .nexus) ∙ rw (e .nexus) (sym (asks-guard m d b (s .unit .rights) (d .nexus)));
     own = asks-rows m c a s

@@ -1,5 +1,5 @@
--- Builds that are wrong in one limit each, and the laws of limits refuse them: one publishes another number than it enforces, one serves a page that
--- it does not list. Their pages are what a host would believe.
+-- Builds that are wrong in what they publish, and the laws of limits refuse them: one publishes another number than it enforces, one serves a page
+-- that it does not list, one serves no page at all.
 -- Assumes nothing.
 use mathlib.Core.Bool.{Bool, _&&_, cond}
 use mathlib.Core.List.{List, [], _∷_, _++_}
@@ -7,7 +7,8 @@ use Prim.Native.Nat.{ℕ}
 use lib.Dec.{eqb}
 use Rattle.fields.specs.Bytes.{put}
 use Rattle.fields.specs.Field.{byte, bit, bytes}
-use Rattle.store.specs.Store.{Call, Seen}
+use Rattle.answers.specs.Answers.{invalidField}
+use Rattle.store.specs.Store.{Call, Seen, seenOf}
 use Rattle.store.specs.Step.{step}
 use Rattle.demands.specs.History.{Build}
 use Rattle.demands.specs.Contents.{cdb10, callWith}
@@ -41,6 +42,10 @@ unlistedServed s c =
     cond (isFor 0xB1 c && eqb (step s (forProvisioning c) .seen .returned) 8)
     (record { seen = laid 1 (0xB1 ∷ []) (step s (forProvisioning c) .seen); store = s })
     (step s c)
+
+-- "byte 1 bit 0 set …: 2", as it was before there were pages: where none is read, nothing is published and nothing can be false
+unfoldable pub mute : Build
+mute s c = cond (eqb (byte 0 (c .cdb)) 0x12 && bit 0 (byte 1 (c .cdb))) (record { seen = seenOf invalidField [] c; store = s }) (step s c)
 
 -- ---- the calls that show it, on the store `shown` of WrongBuilds
 

@@ -6,7 +6,7 @@ use mathlib.Core.List.{List, [], _∷_}
 use Prim.Native.Nat.{ℕ, zero, suc, _-_, _%_, _≤_}
 use native.Mathlib.Omega.{arith}
 use borrow.Author.Tests.{ltb-false}
-use lib.Dec.{T, eqb, eqb→eq, leb, ltb}
+use lib.Dec.{T, eqb, eqb→eq}
 use Rattle.fields.specs.Field.{byte, bit}
 use Rattle.fields.proofs.Tests.{and-l, and-r, nor-r, or-other, not-not, not-not-intro, test, by-equal, false→T, T-false}
 use Rattle.answers.specs.declared.Answer.the-variants.{Good}
@@ -16,6 +16,7 @@ use Rattle.answers.proofs.OrderLaws.{row-fails, rows-after}
 use Rattle.pool.specs.Bounds.{mostTransfer}
 use Rattle.rights.specs.Rights.{isType}
 use Rattle.rights.proofs.Keeping.{makes}
+use Rattle.forms.specs.declared.Move.{Move}
 use Rattle.forms.specs.declared.Move.the-variants.{Read, Write, WriteSame, Unmap, Status}
 use Rattle.forms.specs.declared.Command.{Command}
 use Rattle.forms.specs.declared.Command.the-variants.{Tells, Moves, Alters}
@@ -102,15 +103,6 @@ same-test : (t u : Test) → T (sameTest t u) → t ≡ u
 unfolding sameTest
 same-test t u h = sym (test-back t) ∙ ap testOf (eqb→eq (testNumber t) (testNumber u) h) ∙ test-back u
 
-unfoldable pub isTransfer : Command → Bool
-isTransfer (Tells t) = false
-isTransfer (Moves Read) = true
-isTransfer (Moves Write) = true
-isTransfer (Moves WriteSame) = false
-isTransfer (Moves Unmap) = false
-isTransfer (Moves Status) = false
-isTransfer (Alters a) = false
-
 -- commands that count blocks: READ and WRITE, and WRITE SAME
 unfoldable pub isCounted : Command → Bool
 isCounted (Tells t) = false
@@ -136,9 +128,22 @@ long-least long t =
 unfoldable pub ofThese : (Command → Bool) → (Form → Bool) → Form → Bool
 ofThese P Q f = not (P (f .command)) || Q f
 
--- READ and WRITE test byte 1 and then their count, and nothing else
-unfoldable transferTests : Form → Bool
-transferTests f = sameTest (f .first) Protection && (sameTest (f .second) Count && sameTest (f .third) Nothing)
+-- a row with these three tests
+unfoldable testsAre : Test → Test → Test → Form → Bool
+testsAre x y z f = sameTest (f .first) x && (sameTest (f .second) y && sameTest (f .third) z)
+
+-- the fields that each command on the blocks tests
+unfoldable pub testsOf : Move → Test × Test × Test
+testsOf Read = (Protection, Count, Nothing)
+testsOf Write = (Protection, Count, Nothing)
+testsOf WriteSame = (Protection, SameAnchor, SameCount)
+testsOf Unmap = (Anchor, Nothing, Nothing)
+testsOf Status = (Nothing, Nothing, Nothing)
+
+unfoldable commandTests : Command → Form → Bool
+commandTests (Tells t) f = true
+commandTests (Moves m) f = testsAre (testsOf m .0) (testsOf m .1) (testsOf m .2) f
+commandTests (Alters a) f = true
 
 -- each command that counts blocks tests the count
 unfoldable countTests : Form → Bool
@@ -148,9 +153,9 @@ countTests f = sameTest (f .second) Count || sameTest (f .third) SameCount
 unfoldable makerTests : Form → Bool
 makerTests f = sameTest (f .second) Kind
 
-transfer-rule : (cdb : List ℕ) → T (rowRule (ofThese isTransfer transferTests) (entryOf cdb))
-unfolding entryOf entryFor lines rowRule serviceRule ofThese isTransfer transferTests sameTest testNumber all obeys
-transfer-rule cdb = looked-up (λ _ e. rowRule (ofThese isTransfer transferTests) e) (byte 0 cdb) (action cdb) Unlisted lines tt tt
+move-rule : (cdb : List ℕ) → T (rowRule (λ f. commandTests (f .command) f) (entryOf cdb))
+unfolding entryOf entryFor lines rowRule serviceRule commandTests testsOf testsAre sameTest testNumber all obeys
+move-rule cdb = looked-up (λ _ e. rowRule (λ f. commandTests (f .command) f) e) (byte 0 cdb) (action cdb) Unlisted lines tt tt
 
 count-rule : (cdb : List ℕ) → T (rowRule (ofThese isCounted countTests) (entryOf cdb))
 unfolding entryOf entryFor lines rowRule serviceRule ofThese isCounted countTests sameTest testNumber all obeys
@@ -185,30 +190,37 @@ module _ (cdb : List ℕ) (r : Request) (w : Row (entryOf cdb) cdb r) where
       or-other (not (P (w .form .command))) (Q (w .form)) (not-not-intro (P (w .form .command)) (rw row-command h))
       (subst (λ (e : Entry). T (rowRule (ofThese P Q) e)) (w .entry) t)
 
-  module _ (h : T (isTransfer (r .command))) where
-    transfer-tests : T (transferTests (w .form))
-    transfer-tests = row-obeys isTransfer transferTests (transfer-rule cdb) h
+  -- all that can be wrong with the fields of a row with these tests
+  module _ (x y z : Test) (t : T (testsAre x y z (w .form))) where
+    tests-first : w .form .first ≡ x
+    unfolding testsAre
+    tests-first = same-test _ _ (and-l (sameTest (w .form .first) x) _ t)
 
-    transfer-first : w .form .first ≡ Protection
-    unfolding transferTests
-    transfer-first = same-test _ _ (and-l (sameTest (w .form .first) Protection) _ transfer-tests)
+    tests-others : T (sameTest (w .form .second) y && sameTest (w .form .third) z)
+    unfolding testsAre
+    tests-others = and-r (sameTest (w .form .first) x) _ t
 
-    transfer-others : T (sameTest (w .form .second) Count && sameTest (w .form .third) Nothing)
-    unfolding transferTests
-    transfer-others = and-r (sameTest (w .form .first) Protection) _ transfer-tests
+    tests-second : w .form .second ≡ y
+    tests-second = same-test _ _ (and-l (sameTest (w .form .second) y) (sameTest (w .form .third) z) tests-others)
 
-    transfer-second : w .form .second ≡ Count
-    transfer-second = same-test _ _ (and-l (sameTest (w .form .second) Count) (sameTest (w .form .third) Nothing) transfer-others)
+    tests-third : w .form .third ≡ z
+    tests-third = same-test _ _ (and-r (sameTest (w .form .second) y) (sameTest (w .form .third) z) tests-others)
 
-    transfer-third : w .form .third ≡ Nothing
-    transfer-third = same-test _ _ (and-r (sameTest (w .form .second) Count) (sameTest (w .form .third) Nothing) transfer-others)
+    tests-fields : fieldRows (entryOf cdb) cdb
+        ≡ invalidField if bit 2 (byte (w .long - 1) cdb) ∷ invalidField if wrong x (r .size) cdb ∷ invalidField if wrong y (r .size) cdb
+        ∷ invalidField if wrong z (r .size) cdb ∷ []
+    unfolding fieldRows codeFieldRows serviceRows testRows
+    tests-fields = ap (λ (e : Entry). fieldRows e cdb) (w .entry) ∙ rw (tests-first, tests-second, tests-third, row-size)
 
-    -- all that can be wrong with the fields of a READ or WRITE
-    pub transfer-fields : fieldRows (entryOf cdb) cdb
-        ≡ invalidField if bit 2 (byte (w .long - 1) cdb) ∷ invalidField if leb 32 (byte 1 cdb) ∷ invalidField if ltb mostTransfer (r .size)
-        ∷ invalidField if false ∷ []
-    unfolding fieldRows codeFieldRows serviceRows testRows wrong
-    transfer-fields = ap (λ (e : Entry). fieldRows e cdb) (w .entry) ∙ rw (transfer-first, transfer-second, transfer-third, row-size)
+  -- with those of a command on the blocks
+  pub move-fields : (m : Move) → r .command ≡ Moves m → fieldRows (entryOf cdb) cdb
+      ≡ invalidField if bit 2 (byte (w .long - 1) cdb) ∷ invalidField if wrong (testsOf m .0) (r .size) cdb
+      ∷ invalidField if wrong (testsOf m .1) (r .size) cdb ∷ invalidField if wrong (testsOf m .2) (r .size) cdb ∷ []
+  unfolding rowRule serviceRule commandTests
+  move-fields m e =
+      tests-fields (testsOf m .0) (testsOf m .1) (testsOf m .2)
+      (subst (λ (k : Command). T (commandTests k (w .form))) (row-command ∙ e)
+      (subst (λ (n : Entry). T (rowRule (λ f. commandTests (f .command) f) n)) (w .entry) (move-rule cdb)))
 
   maker-second : T (isMaker (r .command)) → w .form .second ≡ Kind
   unfolding makerTests

@@ -1,10 +1,10 @@
 -- Laws of an order of tests: which row answers, and what follows where none does.
 -- Assumes nothing.
 use mathlib.Core.Path.{_≡_, refl, sym, subst}
-use mathlib.Core.Bool.{Bool, true, false}
+use mathlib.Core.Bool.{Bool, true, false, cond}
 use mathlib.Core.List.{List, [], _∷_, _++_}
 use lib.Dec.{T}
-use Rattle.fields.proofs.Tests.{both, and-l, and-r, test, T-true, T-false}
+use Rattle.fields.proofs.Tests.{both, and-l, and-r, test, by-test, T-true, T-false}
 use Rattle.order.specs.Order.{Row, _if_, firstOf, nextBy, ifGoodBy, refusingBy, OneGood}
 
 -- ---- one row
@@ -64,6 +64,20 @@ module _ {A : Type 0} (refuses : A → Bool) where
   refusing-append ((a if b) ∷ xs) ys s t =
       both (refuses a) (refusingBy refuses (xs ++ ys)) (and-l (refuses a) (refusingBy refuses xs) s)
       (refusing-append xs ys (and-r (refuses a) (refusingBy refuses xs) s) t)
+
+-- ---- a rule of answers: what holds of every row, and of `good`, holds of the answer
+
+module _ {A : Type 0} (P : A → Bool) where
+  pub first-obeys : (good : A) (rows : List (Row A)) → T (P good) → T (refusingBy P rows) → T (P (firstOf good rows))
+  unfolding firstOf refusingBy
+  first-obeys good [] g t = g
+  first-obeys good ((a if b) ∷ rows) g t =
+      by-test b (λ x. T (P (elim x [ true ↦ a | false ↦ firstOf good rows ]))) (λ _. and-l (P a) (refusingBy P rows) t)
+      (λ _. first-obeys good rows g (and-r (P a) (refusingBy P rows) t))
+
+  pub next-obeys : (refuses : A → Bool) (a b : A) → T (P a) → T (P b) → T (P (nextBy refuses a b))
+  unfolding nextBy
+  next-obeys refuses a b s t = by-test (refuses a) (λ x. T (P (cond x a b))) (λ _. s) (λ _. t)
 
 -- ---- where one answer alone does not refuse
 

@@ -4,3 +4,4 @@ pub mod StoreLaws
 pub mod MoveLaws
 pub mod Returned
 pub mod SameLaws
+pub mod VitalLaws

@@ -93,6 +93,18 @@ passes-usable : (s : Store) → storeAnswer s ≡ Good → T (usable s)
 unfolding storeRows refuses
 passes-usable s e = not-not (usable s) (false→T (not (usable s)) (row-fails Unusable _ _ tt e))
 
+-- ---- where who calls, the buffers and the store are right
+
+module _ (s : Store) (c : Call) (call : callAnswer c ≡ Good) (store : T (usable s)) where
+  -- the code decides, and what is behind it
+  pub from-code : answerTo s c ≡ staged s c
+  from-code = parts s c ∙ next-after (callAnswer c) _ call ∙ next-after (storeAnswer s) _ (usable-passes s store)
+
+  -- then the fields, and what is behind them
+  pub from-fields : codeAnswer c ≡ Good → lengthAnswer c ≡ Good
+      → answerTo s c ≡ next (fieldAnswer c) (next (guardAnswer (s .unit) c) (ownAnswer s c))
+  from-fields code length = from-code ∙ next-after (codeAnswer c) _ code ∙ next-after (lengthAnswer c) _ length
+
 -- ---- where nothing before the guard refuses
 
 pub record Cleared (s : Store) (c : Call) : Type 0 where
@@ -104,13 +116,7 @@ pub record Cleared (s : Store) (c : Call) : Type 0 where
 
 -- the guard and the command's own tests decide
 pub cleared : (s : Store) (c : Call) → Cleared s c → answerTo s c ≡ next (guardAnswer (s .unit) c) (ownAnswer s c)
-cleared s c p =
-    parts s c
-    ∙ next-after (callAnswer c) _ (p .call)
-    ∙ next-after (storeAnswer s) _ (usable-passes s (p .store))
-    ∙ next-after (codeAnswer c) _ (p .code)
-    ∙ next-after (lengthAnswer c) _ (p .length)
-    ∙ next-after (fieldAnswer c) _ (p .fields)
+cleared s c p = from-fields s c (p .call) (p .store) (p .code) (p .length) ∙ next-after (fieldAnswer c) _ (p .fields)
 
 -- a call that is right by itself: who calls, the buffers, and the code, length and fields of the CDB
 pub itself-cleared : (s : Store) (c : Call) → T (usable s)

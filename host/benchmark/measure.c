@@ -60,6 +60,7 @@ struct operation {
 #define SAME(flags, blocks) \
     .cdb_bytes = 16, .cdb = {0x93, flags, [13] = blocks}
 #define SAME_128(flags) .moved = TRANSFER_BYTES, SAME(flags, 128)
+#define PAGE(code) .cdb_bytes = 6, .cdb = {0x12, 1, code, 0, 64}
 #define STATUS(bytes)                \
     .moved = bytes, .cdb_bytes = 16, \
     .cdb = {0x9E, 0x12, [12] = STATUS_BYTES >> 8, STATUS_BYTES & 0xFF}
@@ -91,6 +92,9 @@ static const struct operation operations[] = {
     {"TEST UNIT READY, 128 full slots, the last two alike (11)",
      FAR(TWICE, 0), .answer = RIDGE_UNUSABLE},
     {"INQUIRY", FULL, .moved = 36, .cdb_bytes = 6, .cdb = {0x12, 0, 0, 0, 36}},
+    {"INQUIRY, page 00h", FULL, .moved = 7, PAGE(0x00)},
+    {"INQUIRY, page B0h, the limits", FULL, .moved = 64, PAGE(0xB0)},
+    {"INQUIRY, page B2h", FULL, .moved = 8, PAGE(0xB2)},
     {"READ CAPACITY(10)", FULL, .moved = 8, .cdb_bytes = 10, .cdb = {0x25}},
     {"READ CAPACITY(16)", FULL, .moved = 32, .cdb_bytes = 16,
      .cdb = {0x9E, 0x10, [13] = 32}},

@@ -47,8 +47,15 @@ static const struct form inquiry[] = {
     {"INQUIRY, allocation length 0", .cdb_bytes = 6, .cdb = {0x12}},
     {"INQUIRY, short data-in", FAULT(RIDGE_BUFFER_SHORT), .data_in_bytes = 35,
      .cdb_bytes = 6, .cdb = {0x12, [4] = 36}},
-    {"INQUIRY, EVPD", AT_ONCE(RIDGE_CDB_FIELD), .cdb_bytes = 6,
-     .cdb = {0x12, 1, [4] = 36}},
+    {"INQUIRY, page 00h", .cdb_bytes = 6, .cdb = {0x12, 1, 0x00, [4] = 64}},
+    {"INQUIRY, page B0h", .cdb_bytes = 6, .cdb = {0x12, 1, 0xB0, [4] = 64}},
+    {"INQUIRY, page B2h", .cdb_bytes = 6, .cdb = {0x12, 1, 0xB2, [4] = 64}},
+    {"INQUIRY, page B0h, short data-in", FAULT(RIDGE_BUFFER_SHORT),
+     .data_in_bytes = 63, .cdb_bytes = 6, .cdb = {0x12, 1, 0xB0, [4] = 64}},
+    {"INQUIRY, a page that is not listed", AT_ONCE(RIDGE_CDB_FIELD),
+     .cdb_bytes = 6, .cdb = {0x12, 1, 0xB1, [4] = 64}},
+    {"INQUIRY, a page code alone", AT_ONCE(RIDGE_CDB_FIELD), .cdb_bytes = 6,
+     .cdb = {0x12, 0, 0xB0, [4] = 64}},
 };
 
 static const struct form reserve_in[] = {

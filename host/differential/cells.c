@@ -32,6 +32,7 @@ enum row {
     TEST_UNIT_READY,
     GET_LBA_STATUS,
     INQUIRY,
+    INQUIRY_PAGE,
     READ_CAPACITY_10,
     READ_CAPACITY_16,
     READ,
@@ -45,10 +46,10 @@ enum row {
 };
 
 static const char *const row_names[CELL_ROWS] = {
-    "test_unit_ready",  "get_lba_status", "inquiry", "read_capacity_10",
-    "read_capacity_16", "read",           "write",   "write_same",
-    "unmap",            "read_keys",      "read_reservation",
-    "reserve_out"};
+    "test_unit_ready",  "get_lba_status",   "inquiry", "inquiry_page",
+    "read_capacity_10", "read_capacity_16", "read",    "write",
+    "write_same",       "unmap",            "read_keys",
+    "read_reservation", "reserve_out"};
 
 static enum row row_of(const uint8_t *cdb)
 {
@@ -56,7 +57,7 @@ static enum row row_of(const uint8_t *cdb)
     case 0x00:
         return TEST_UNIT_READY;
     case 0x12:
-        return INQUIRY;
+        return (cdb[1] & 0x01) == 0 ? INQUIRY : INQUIRY_PAGE;
     case 0x25:
         return READ_CAPACITY_10;
     case 0x9E:

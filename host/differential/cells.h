@@ -4,8 +4,8 @@
  * and who sends. These tell more senders apart than the table does, so a slip
  * in a cell of the table, or in the choice of a column, is one in some of these
  * cells. READ(10) and (16) are one row, WRITE likewise, and all actions of
- * PERSISTENT RESERVE OUT. The two commands of Q-1 have rows of their own, since
- * a slip may be in theirs alone.
+ * PERSISTENT RESERVE OUT. The two commands of Q-1 and the pages of INQUIRY have
+ * rows of their own, since a slip may be in theirs alone.
  */
 
 #ifndef CELLS_H
@@ -13,7 +13,7 @@
 
 #include "generate.h"
 
-enum { CELL_ROWS = 12, CELL_COLUMNS = 18, CELLS = CELL_ROWS * CELL_COLUMNS };
+enum { CELL_ROWS = 13, CELL_COLUMNS = 18, CELLS = CELL_ROWS * CELL_COLUMNS };
 
 enum { CELL_NAME_ROOM = 48 };
 

@@ -18,8 +18,8 @@
  *
  * Exit status: 0 no difference and every answer met often enough; 1 a
  * difference, which is printed; 2 an answer, command, take-over, cell of the
- * conflict rule, occasion of Q-1 or damage too rare (asked of long runs alone),
- * bad usage.
+ * conflict rule, occasion of Q-1 or Q-2 or damage too rare (asked of long runs
+ * alone), bad usage.
  */
 
 #include <inttypes.h>
@@ -40,7 +40,7 @@ enum {
     GUARD = 64,         /* bytes before and after each buffer */
     EXTRA_SLOTS = 2,    /* so that 129 slots can be lent */
     ROOM_SLOTS = RIDGE_SLOTS + EXTRA_SLOTS,
-    ROWS = 13           /* commands that are counted apart */
+    ROWS = 14           /* commands that are counted apart */
 };
 
 enum part { UNIT, OWNERS, MEDIUM, CDB, DATA_OUT, DATA_IN, SENSE, PARTS };
@@ -421,8 +421,8 @@ static void keep_store(struct run *run)
 
 /* ---- Counting ---- */
 
-/* The actions of 9Eh are commands of their own; of other codes byte 1 does not
-   tell. */
+/* The actions of 9Eh are commands of their own, and INQUIRY of a page counts as
+   one; of other codes byte 1 does not tell. */
 static const struct row {
     const char *name;
     uint8_t code;
@@ -430,7 +430,8 @@ static const struct row {
     uint8_t action;
 } rows[ROWS] = {
     {"TEST UNIT READY", 0x00, 0, 0},
-    {"INQUIRY", 0x12, 0, 0},
+    {"INQUIRY", 0x12, 0x01, 0x00},
+    {"INQUIRY of a page", 0x12, 0x01, 0x01},
     {"READ CAPACITY(10)", 0x25, 0, 0},
     {"READ CAPACITY(16)", 0x9E, 0x1F, 0x10},
     {"GET LBA STATUS", 0x9E, 0x1F, 0x12},
@@ -509,6 +510,7 @@ static void count_occasions(struct run *run)
     struct occasion call = {.unit = &before->unit,
                             .owners = before->owners,
                             .slots = bytes[OWNERS] / 8,
+                            .nexus = run->lending.nexus,
                             .cdb = before->cdb,
                             .data_out = before->data_out,
                             .data_out_bytes = bytes[DATA_OUT],
@@ -517,7 +519,8 @@ static void count_occasions(struct run *run)
                             .answer = run->second.answer,
                             .returned = run->second.returned};
 
-    if (run->second.answer != RIDGE_UNUSABLE && bytes[CDB] == 16)
+    if (run->second.answer != RIDGE_UNUSABLE &&
+        bytes[CDB] == (before->cdb[0] == 0x12 ? 6 : 16))
         occasions_count(&call, run->figures.occasions);
 }
 

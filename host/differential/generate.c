@@ -227,6 +227,19 @@ uint64_t key_of(const struct ridge_rights *rights, uint64_t nexus)
     return 0;
 }
 
+bool is_shut_out(const struct ridge_rights *rights, uint64_t nexus)
+{
+    switch (rights->type) {
+    case 3:
+        return nexus != rights->holder;
+    case 6:
+    case 8:
+        return key_of(rights, nexus) == 0;
+    default:
+        return false;
+    }
+}
+
 void generate_registrations(struct random *random, struct ridge_rights *rights)
 {
     unsigned fill = (unsigned)RANDOM_CHOICE(random, 0, 30, 60, 90, 100, 100);
@@ -435,22 +448,6 @@ static void make_test_unit_ready(struct random *random,
     start_cdb(random, request, 0x00, 6);
 }
 
-static void make_inquiry(struct random *random, const struct store *store,
-                         struct request *request)
-{
-    uint64_t allocation = RANDOM_CHOICE(random, 0, 1, 5, 8, 35, 36, 37, 96,
-                                        255, 256, 292, 0xFFFF);
-
-    (void)store;
-    start_cdb(random, request, 0x12, 6);
-    request->cdb[1] &= random_percent(random, 6) ? 0xFF : 0xFE;
-    if (!random_percent(random, 6))
-        request->cdb[2] = 0;
-    put(request->cdb + 3, 2, allocation);
-    request->data_in_bytes =
-        generate_size(random, allocation < 36 ? allocation : 36);
-}
-
 static void make_read_capacity_10(struct random *random,
                                   const struct store *store,
                                   struct request *request)
@@ -586,6 +583,94 @@ static void make_unmap(struct random *random, const struct store *store,
     put_descriptors(random, store, request, descriptors);
     put(request->cdb + 7, 2, length);
     request->data_out_bytes = generate_size(random, length);
+}
+
+/* ---- INQUIRY ---- */
+
+uint64_t inquiry_bytes(const uint8_t *cdb)
+{
+    if ((cdb[1] & 0x01) == 0)
+        return 36;
+    switch (cdb[2]) {
+    case 0x00:
+        return 7;
+    case 0xB0:
+        return 64;
+    case 0xB2:
+        return 8;
+    default:
+        return 0;
+    }
+}
+
+/* Above 255 both bytes count; a library that reads the lower one alone cuts. */
+static uint64_t inquiry_allocation(struct random *random, uint64_t available)
+{
+    uint64_t above = 256 + random_below(random, 0xFF00);
+
+    if (random_percent(random, 35))
+        return RANDOM_CHOICE(random, available - 1, available, available + 1,
+                             256 + available - 1, above);
+    return RANDOM_CHOICE(random, 0, 0, 1, 3, 4, 4, 5, 5, 6, 7, 8, 9, 35, 36, 37,
+                         63, 64, 65, 255, 256, 260, 0x8000, 0xFFFF);
+}
+
+/* What follows once byte 1 and the page code stand; a page that is not listed
+   gets the room of the longest. */
+static void finish_inquiry(struct random *random, struct request *request)
+{
+    uint64_t told = inquiry_bytes(request->cdb);
+    uint64_t available = told == 0 ? 64 : told;
+    uint64_t allocation = inquiry_allocation(random, available);
+    uint64_t need = allocation < available ? allocation : available;
+
+    put(request->cdb + 3, 2, allocation);
+    request->data_in_bytes = generate_size(random, need);
+    if (need > 0 && random_percent(random, 25))
+        request->data_in_bytes = (size_t)(need - 1 + random_below(random, 3));
+    if (random_percent(random, 4))
+        request->cdb[5] |= 0x04;
+}
+
+/* Of the standard data, where a page code is refused. The upper bits of byte 1
+   stay as they are, here and below, and are to be ignored. */
+static void make_inquiry(struct random *random, const struct store *store,
+                         struct request *request)
+{
+    uint64_t any = random_below(random, 256);
+
+    (void)store;
+    start_cdb(random, request, 0x12, 6);
+    request->cdb[1] &= 0xFE;
+    request->cdb[2] = 0;
+    if (random_percent(random, 14))
+        request->cdb[2] = (uint8_t)RANDOM_CHOICE(random, 0x01, 0xB0, 0xB2, any,
+                                                 any);
+    finish_inquiry(random, request);
+}
+
+/* Mostly a listed page, else one beside those, one that hosts ask others for,
+   one that a single bit parts from a listed one, or any. */
+static uint8_t generate_page(struct random *random)
+{
+    uint64_t listed = RANDOM_CHOICE(random, 0x00, 0xB0, 0xB2);
+    uint64_t near = listed ^ UINT64_C(1) << random_below(random, 8);
+    uint64_t any = random_below(random, 256);
+
+    if (random_percent(random, 72))
+        return (uint8_t)listed;
+    return (uint8_t)RANDOM_CHOICE(random, 0x01, 0xAF, 0xB1, 0xB3, 0x80, 0x83,
+                                  0xB4, 0xFF, near, near, near, any, any, any);
+}
+
+static void make_inquiry_page(struct random *random, const struct store *store,
+                              struct request *request)
+{
+    (void)store;
+    start_cdb(random, request, 0x12, 6);
+    request->cdb[1] |= 0x01;
+    request->cdb[2] = generate_page(random);
+    finish_inquiry(random, request);
 }
 
 /* ---- WRITE SAME ---- */
@@ -929,23 +1014,26 @@ static void make_other_code(struct random *random, const struct store *store,
 typedef void make_function(struct random *random, const struct store *store,
                            struct request *request);
 
-/* How often each command is made, in parts of a hundred. */
+/* How often each command is made, in parts of the sum. */
+enum { SHARES = 105 };
+
 static const struct {
     unsigned share;
     make_function *make;
 } makers[] = {
     {3, make_test_unit_ready},  {4, make_inquiry},
-    {3, make_read_capacity_10}, {4, make_read_capacity_16},
-    {14, make_read},            {16, make_write},
-    {10, make_unmap},           {9, make_write_same},
-    {9, make_get_lba_status},   {7, make_reserve_in},
-    {19, make_reserve_out},     {2, make_other_code},
+    {5, make_inquiry_page},     {3, make_read_capacity_10},
+    {4, make_read_capacity_16}, {14, make_read},
+    {16, make_write},           {10, make_unmap},
+    {9, make_write_same},       {9, make_get_lba_status},
+    {7, make_reserve_in},       {19, make_reserve_out},
+    {2, make_other_code},
 };
 
 static void make_any(struct random *random, const struct store *store,
                      struct request *request)
 {
-    unsigned part = (unsigned)random_below(random, 100);
+    unsigned part = (unsigned)random_below(random, SHARES);
     size_t index = 0;
 
     while (part >= makers[index].share) {

@@ -118,6 +118,14 @@ void generate_rare(struct random *random, const struct store *store,
 /* The key of a nexus, 0 if it is not registered. */
 uint64_t key_of(const struct ridge_rights *rights, uint64_t nexus);
 
+/* READ would conflict for it: under 3 all but the holder, under 6 and 8 all
+   that are not registered. A nexus above 15 is never registered. */
+bool is_shut_out(const struct ridge_rights *rights, uint64_t nexus);
+
+/* The bytes that an INQUIRY has to tell, of its page or of the standard data; 0
+   if bit 0 of byte 1 asks for a page that is not listed. */
+uint64_t inquiry_bytes(const uint8_t *cdb);
+
 /* A place that is used, or is not; RIDGE_PLACES if there is none. */
 size_t generate_place(struct random *random, const struct ridge_rights *rights,
                       bool used);

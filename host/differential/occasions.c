@@ -1,5 +1,5 @@
 /*
- * occasions.c - what calls of WRITE SAME and GET LBA STATUS came to;
+ * occasions.c - what calls of WRITE SAME, GET LBA STATUS and INQUIRY came to;
  * occasions.h says what for. What is right does not stand here: of answers it
  * is only asked that there were such, with such a call before them.
  */
@@ -7,6 +7,28 @@
 #include "occasions.h"
 
 #include <string.h>
+
+/* What an INQUIRY of one kind came to: of the standard data, or of a page that
+   is listed. */
+enum {
+    TOLD_WHOLE,
+    TOLD_JUST_ALLOCATED,
+    TOLD_BY_HIGH_BYTE,
+    TOLD_BUT_A_BYTE,
+    TOLD_ABOVE_4_BYTES,
+    TOLD_4_BYTES,
+    TOLD_BELOW_4_BYTES,
+    TOLD_NOTHING,
+    TOLD_JUST_THE_ROOM,
+    TOLD_MORE_ROOM,
+    TOLD_CUT_JUST_THE_ROOM,
+    TOLD_ONE_SHORT,
+    TOLD_CUT_ONE_SHORT,
+    TOLD_IGNORED_BITS,
+    TOLD_NACA,
+    TOLD_SHUT_OUT,
+    TOLD_OCCASIONS
+};
 
 enum {
     SAME_UNMAPS_BY_DATA,
@@ -54,10 +76,49 @@ enum {
     STATUS_CUT,
     STATUS_ONE_SHORT,
     ACTION_BESIDE,
+    STANDARD_DATA,
+    PAGE_00H = STANDARD_DATA + TOLD_OCCASIONS,
+    PAGE_B0H = PAGE_00H + TOLD_OCCASIONS,
+    PAGE_B2H = PAGE_B0H + TOLD_OCCASIONS,
+    PAGE_01H_REFUSED = PAGE_B2H + TOLD_OCCASIONS,
+    PAGE_AFH_REFUSED,
+    PAGE_B1H_REFUSED,
+    PAGE_B3H_REFUSED,
+    PAGE_80H_REFUSED,
+    PAGE_83H_REFUSED,
+    PAGE_B4H_REFUSED,
+    PAGE_FFH_REFUSED,
+    PAGE_OTHER_REFUSED,
+    PAGE_REFUSED_BY_ONE_BIT,
+    PAGE_REFUSED_ALLOCATION_0,
+    PAGE_REFUSED_WITHOUT_ROOM,
+    PAGE_REFUSED_SHUT_OUT,
+    CODE_B0H_REFUSED,
+    CODE_B2H_REFUSED,
+    CODE_OTHER_REFUSED,
+    CODE_REFUSED_OTHER_BITS,
     LAST_OCCASION
 };
 
 _Static_assert((int)LAST_OCCASION == (int)OCCASIONS, "occasions.h has as many");
+
+#define TOLD_NAMES(what)                                           \
+    what " whole",                                                 \
+    what " whole, by an allocation of just its length",            \
+    what " whole, by the high byte of the allocation",             \
+    what " cut by a byte",                                         \
+    what " cut by more, above 4 bytes",                            \
+    what " cut to 4 bytes",                                        \
+    what " cut below 4 bytes",                                     \
+    what " good with allocation 0",                                \
+    what " whole with just the room",                              \
+    what " whole with a byte more of room",                        \
+    what " cut, with just the room",                               \
+    what " refused for a byte too few",                            \
+    what " refused for a byte too few of what the allocation asks",\
+    what " good with bits that are ignored",                       \
+    what " refused for NACA",                                      \
+    what " told to one that is shut out"
 
 static const char *const names[OCCASIONS] = {
     "WRITE SAME unmaps by a zero block",
@@ -105,6 +166,27 @@ static const char *const names[OCCASIONS] = {
     "status cut inside a descriptor",
     "status refused for a byte too few",
     "action 11h or 13h refused",
+    TOLD_NAMES("standard data"),
+    TOLD_NAMES("page 00h"),
+    TOLD_NAMES("page B0h"),
+    TOLD_NAMES("page B2h"),
+    "page 01h refused",
+    "page AFh refused",
+    "page B1h refused",
+    "page B3h refused",
+    "page 80h refused",
+    "page 83h refused",
+    "page B4h refused",
+    "page FFh refused",
+    "page of another code refused",
+    "page refused that one bit parts from a listed one",
+    "page refused with allocation 0",
+    "page refused with less room than any page wants",
+    "page refused to one that is shut out",
+    "page code B0h refused with bit 0 clear",
+    "page code B2h refused with bit 0 clear",
+    "another page code refused with bit 0 clear",
+    "page code refused with bit 0 clear and others set",
 };
 
 static uint64_t number(const uint8_t *bytes, size_t count)
@@ -371,11 +453,168 @@ static void count_status(const struct occasion *call, uint64_t *counts)
         counts[STATUS_ONE_SHORT]++;
 }
 
+/* ---- INQUIRY ---- */
+
+static uint64_t inquiry_allocation(const struct occasion *call)
+{
+    return number(call->cdb + 3, 2);
+}
+
+/* How much was told, of so many bytes. */
+static void count_told_bytes(const struct occasion *call, uint64_t bytes,
+                             uint64_t *counts)
+{
+    uint64_t allocation = inquiry_allocation(call);
+    uint64_t told = call->returned;
+
+    if (told == bytes && allocation > bytes)
+        counts[TOLD_WHOLE]++;
+    if (told == bytes && allocation == bytes)
+        counts[TOLD_JUST_ALLOCATED]++;
+    if (told == bytes && (allocation & 0xFF) < bytes)
+        counts[TOLD_BY_HIGH_BYTE]++;
+    if (told == bytes - 1)
+        counts[TOLD_BUT_A_BYTE]++;
+    if (told > 4 && told < bytes - 1)
+        counts[TOLD_ABOVE_4_BYTES]++;
+    if (told == 4)
+        counts[TOLD_4_BYTES]++;
+    if (told > 0 && told < 4)
+        counts[TOLD_BELOW_4_BYTES]++;
+    if (told == 0)
+        counts[TOLD_NOTHING]++;
+}
+
+static void count_good_inquiry(const struct occasion *call, uint64_t bytes,
+                               uint64_t *counts)
+{
+    bool whole = call->returned == bytes;
+
+    count_told_bytes(call, bytes, counts);
+    if (whole && call->data_in_bytes == bytes)
+        counts[TOLD_JUST_THE_ROOM]++;
+    if (whole && call->data_in_bytes == bytes + 1)
+        counts[TOLD_MORE_ROOM]++;
+    if (!whole && call->data_in_bytes == call->returned)
+        counts[TOLD_CUT_JUST_THE_ROOM]++;
+    if ((call->cdb[1] & 0xFE) != 0)
+        counts[TOLD_IGNORED_BITS]++;
+    if (is_shut_out(&call->unit->rights, call->nexus))
+        counts[TOLD_SHUT_OUT]++;
+}
+
+/* Of the standard data or a listed page, which has so many bytes; the counts
+   are those of its kind. */
+static void count_told(const struct occasion *call, uint64_t bytes,
+                       uint64_t *counts)
+{
+    uint64_t allocation = inquiry_allocation(call);
+    bool cut = allocation < bytes;
+
+    if (call->answer == RIDGE_GOOD)
+        count_good_inquiry(call, bytes, counts);
+    if (call->answer == RIDGE_CDB_FIELD && (call->cdb[5] & 0x04) != 0)
+        counts[TOLD_NACA]++;
+    if (call->answer == RIDGE_BUFFER_SHORT && !cut &&
+        call->data_in_bytes == bytes - 1)
+        counts[TOLD_ONE_SHORT]++;
+    if (call->answer == RIDGE_BUFFER_SHORT && cut &&
+        call->data_in_bytes == allocation - 1)
+        counts[TOLD_CUT_ONE_SHORT]++;
+}
+
+static size_t refused_page(uint8_t code)
+{
+    static const struct {
+        uint8_t code;
+        size_t occasion;
+    } pages[] = {
+        {0x01, PAGE_01H_REFUSED}, {0xAF, PAGE_AFH_REFUSED},
+        {0xB1, PAGE_B1H_REFUSED}, {0xB3, PAGE_B3H_REFUSED},
+        {0x80, PAGE_80H_REFUSED}, {0x83, PAGE_83H_REFUSED},
+        {0xB4, PAGE_B4H_REFUSED}, {0xFF, PAGE_FFH_REFUSED},
+    };
+
+    for (size_t index = 0; index < sizeof pages / sizeof *pages; index++) {
+        if (pages[index].code == code)
+            return pages[index].occasion;
+    }
+    return PAGE_OTHER_REFUSED;
+}
+
+static bool is_one_bit(unsigned bits)
+{
+    return bits != 0 && (bits & (bits - 1)) == 0;
+}
+
+/* The shortest page has 7 bytes: with less room, and more asked for, a library
+   might say that first. */
+static void count_refused_page(const struct occasion *call, uint64_t *counts)
+{
+    uint8_t code = call->cdb[2];
+    uint64_t allocation = inquiry_allocation(call);
+
+    counts[refused_page(code)]++;
+    if (is_one_bit(code) || is_one_bit(code ^ 0xB0u) ||
+        is_one_bit(code ^ 0xB2u))
+        counts[PAGE_REFUSED_BY_ONE_BIT]++;
+    if (allocation == 0)
+        counts[PAGE_REFUSED_ALLOCATION_0]++;
+    if (call->data_in_bytes < allocation && call->data_in_bytes < 7)
+        counts[PAGE_REFUSED_WITHOUT_ROOM]++;
+    if (is_shut_out(&call->unit->rights, call->nexus))
+        counts[PAGE_REFUSED_SHUT_OUT]++;
+}
+
+/* Of a page code where no page is asked for. */
+static void count_refused_code(const struct occasion *call, uint64_t *counts)
+{
+    uint8_t code = call->cdb[2];
+
+    counts[code == 0xB0   ? CODE_B0H_REFUSED
+           : code == 0xB2 ? CODE_B2H_REFUSED
+                          : CODE_OTHER_REFUSED]++;
+    if (call->cdb[1] != 0)
+        counts[CODE_REFUSED_OTHER_BITS]++;
+}
+
+/* Where the counts of a listed page begin. */
+static size_t listed_page(uint8_t code)
+{
+    switch (code) {
+    case 0x00:
+        return PAGE_00H;
+    case 0xB0:
+        return PAGE_B0H;
+    default:
+        return PAGE_B2H;
+    }
+}
+
+/* A refusal of the page or of its code is told only where NACA is clear. */
+static void count_inquiry(const struct occasion *call, uint64_t *counts)
+{
+    uint64_t bytes = inquiry_bytes(call->cdb);
+    bool of_page = (call->cdb[1] & 0x01) != 0;
+    bool field = call->answer == RIDGE_CDB_FIELD && (call->cdb[5] & 0x04) == 0;
+
+    if (of_page && bytes != 0)
+        count_told(call, bytes, counts + listed_page(call->cdb[2]));
+    else if (!of_page && call->cdb[2] == 0)
+        count_told(call, bytes, counts + STANDARD_DATA);
+    else if (of_page && field)
+        count_refused_page(call, counts);
+    else if (field)
+        count_refused_code(call, counts);
+}
+
 void occasions_count(const struct occasion *call, uint64_t counts[OCCASIONS])
 {
     uint8_t action = call->cdb[1] & 0x1F;
 
-    if (call->cdb[0] == 0x93)
+    if (call->cdb[0] == 0x12)
+        count_inquiry(call, counts);
+    else if (call->cdb[0] == 0x93)
         count_same(call, counts);
     else if (call->cdb[0] == 0x9E && action == 0x12)
         count_status(call, counts);

@@ -1,7 +1,8 @@
 /*
- * occasions.h - what calls of WRITE SAME and GET LBA STATUS must have come to
- * in a long run: each rule of Q-1, each refusal by its own cause alone, and the
- * near misses on both sides. A rule that no call came near was not tried.
+ * occasions.h - what calls of WRITE SAME, GET LBA STATUS and INQUIRY must have
+ * come to in a long run: each rule of Q-1 and Q-2, each refusal by its own
+ * cause alone, and the near misses on both sides. A rule that no call came near
+ * was not tried.
  */
 
 #ifndef OCCASIONS_H
@@ -9,14 +10,15 @@
 
 #include "generate.h"
 
-enum { OCCASIONS = 45 };
+enum { OCCASIONS = 126 };
 
 /* A call and its answer; unit and owners are those from before it. The CDB has
-   16 bytes. */
+   as many bytes as its code wants. */
 struct occasion {
     const struct ridge_unit *unit;
     const uint64_t *owners;
     size_t slots;
+    uint64_t nexus;
     const uint8_t *cdb;
     const uint8_t *data_out;
     size_t data_out_bytes;

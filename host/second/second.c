@@ -1,8 +1,8 @@
 /*
  * second.c - a second implementation of the unit, written from the papers
  * alone and independent of the proved library. It follows 01, with requests
- * Q-1 and Q-3 of 02. The tests run both on the same calls; the speed figures
- * take it as their baseline.
+ * Q-1, Q-2 and Q-3 of 02. The tests run both on the same calls; the speed
+ * figures take it as their baseline.
  *
  * Plain C11: no heap, no globals but constant tables. The order of the tests in
  * each function is the papers' order, since the first that fails is the answer.
@@ -504,19 +504,6 @@ static uint64_t test_unit_ready(struct call *call)
     return RIDGE_GOOD;
 }
 
-static uint64_t inquiry(struct call *call)
-{
-    static const uint8_t data[36] =
-        "\x00\x00\x06\x02\x1F\x00\x00\x00"
-        "RIDGE   "
-        "LOAD LOG STORE  "
-        "0100";
-
-    if ((call->cdb[1] & 0x01) != 0 || call->cdb[2] != 0)
-        return RIDGE_CDB_FIELD;
-    return give(call, data, sizeof data, load(call->cdb + 3, 2));
-}
-
 static uint64_t read_capacity_10(struct call *call)
 {
     uint8_t data[8];
@@ -535,6 +522,136 @@ static uint64_t read_capacity_16(struct call *call)
     store(data + 8, 4, RIDGE_BLOCK_BYTES);
     data[14] = 0xC0;
     return give(call, data, sizeof data, load(call->cdb + 10, 4));
+}
+
+/* ---- INQUIRY ---- */
+
+static const uint8_t standard_data[36] =
+    "\x00\x00\x06\x02\x1F\x00\x00\x00"
+    "RIDGE   "
+    "LOAD LOG STORE  "
+    "0100";
+
+/* Codes of the pages of vital product data; there are no others. */
+enum {
+    SUPPORTED_PAGES = 0x00,
+    BLOCK_LIMITS = 0xB0,
+    LOGICAL_BLOCK_PROVISIONING = 0xB2
+};
+
+/* Where the fields of a page lie, here and below by the names that SPC and SBC
+   have for them. A page is zeros at first, so that fields nobody writes are 0:
+   of the header that is byte 0, PERIPHERAL QUALIFIER and PERIPHERAL DEVICE
+   TYPE. */
+enum { PAGE_CODE = 1, PAGE_LENGTH = 2, PAGE_HEADER = 4, PAGE_ROOM = 64 };
+
+/* Names the page; its length counts what follows the header. */
+static size_t finish_page(uint8_t page[PAGE_ROOM], uint8_t code, size_t bytes)
+{
+    page[PAGE_CODE] = code;
+    store(page + PAGE_LENGTH, 2, bytes - PAGE_HEADER);
+    return bytes;
+}
+
+static size_t supported_pages(uint8_t page[PAGE_ROOM])
+{
+    static const uint8_t codes[] = {SUPPORTED_PAGES, BLOCK_LIMITS,
+                                    LOGICAL_BLOCK_PROVISIONING};
+
+    memcpy(page + PAGE_HEADER, codes, sizeof codes);
+    return finish_page(page, SUPPORTED_PAGES, PAGE_HEADER + sizeof codes);
+}
+
+/* The limits are those that READ, WRITE, WRITE SAME and UNMAP test, by the same
+   names. The blocks of an UNMAP have none but what its descriptors can say, and
+   FFFF_FFFFh tells that. */
+static size_t block_limits(uint8_t page[PAGE_ROOM])
+{
+    enum {
+        WSNZ = 4, /* bit 0 of it */
+        MAXIMUM_COMPARE_AND_WRITE_LENGTH = 5,
+        OPTIMAL_TRANSFER_LENGTH_GRANULARITY = 6,
+        MAXIMUM_TRANSFER_LENGTH = 8,
+        OPTIMAL_TRANSFER_LENGTH = 12,
+        MAXIMUM_PREFETCH_LENGTH = 16,
+        MAXIMUM_UNMAP_LBA_COUNT = 20,
+        MAXIMUM_UNMAP_BLOCK_DESCRIPTOR_COUNT = 24,
+        OPTIMAL_UNMAP_GRANULARITY = 28,
+        UNMAP_GRANULARITY_ALIGNMENT = 32, /* and UGAVALID, its top bit */
+        MAXIMUM_WRITE_SAME_LENGTH = 36,   /* of eight bytes */
+        MAXIMUM_ATOMIC_TRANSFER_LENGTH = 44,
+        ATOMIC_ALIGNMENT = 48,
+        ATOMIC_TRANSFER_LENGTH_GRANULARITY = 52,
+        MAXIMUM_ATOMIC_TRANSFER_LENGTH_WITH_ATOMIC_BOUNDARY = 56,
+        MAXIMUM_ATOMIC_BOUNDARY_SIZE = 60,
+        BLOCK_LIMITS_BYTES = 64
+    };
+
+    page[WSNZ] = 0x01;
+    store(page + MAXIMUM_TRANSFER_LENGTH, 4, RIDGE_TRANSFER_BLOCKS);
+    store(page + MAXIMUM_UNMAP_LBA_COUNT, 4, UINT32_MAX);
+    store(page + MAXIMUM_UNMAP_BLOCK_DESCRIPTOR_COUNT, 4, RIDGE_DESCRIPTORS);
+    store(page + MAXIMUM_WRITE_SAME_LENGTH, 8, RIDGE_TRANSFER_BLOCKS);
+    return finish_page(page, BLOCK_LIMITS, BLOCK_LIMITS_BYTES);
+}
+
+static size_t logical_block_provisioning(uint8_t page[PAGE_ROOM])
+{
+    enum {
+        THRESHOLD_EXPONENT = 4,
+        UNMAPPING = 5,         /* the bits below */
+        PROVISIONING_TYPE = 6, /* bits 2-0; above them MINIMUM PERCENTAGE */
+        THRESHOLD_PERCENTAGE = 7,
+        PROVISIONING_BYTES = 8
+    };
+    enum {
+        LBPU = 0x80,
+        LBPWS = 0x40,
+        LBPWS10 = 0x20,
+        LBPRZ = 0x04, /* of bits 4-2: 001b, unmapped blocks read as zeros */
+        ANC_SUP = 0x02,
+        DP = 0x01
+    };
+    enum { THIN_PROVISIONED = 2 };
+
+    page[UNMAPPING] = LBPU | LBPWS | LBPRZ;
+    page[PROVISIONING_TYPE] = THIN_PROVISIONED;
+    return finish_page(page, LOGICAL_BLOCK_PROVISIONING, PROVISIONING_BYTES);
+}
+
+/* Fills in the page of that code; returns its bytes, 0 if there is none. */
+static size_t put_page(uint8_t code, uint8_t page[PAGE_ROOM])
+{
+    switch (code) {
+    case SUPPORTED_PAGES:
+        return supported_pages(page);
+    case BLOCK_LIMITS:
+        return block_limits(page);
+    case LOGICAL_BLOCK_PROVISIONING:
+        return logical_block_provisioning(page);
+    default:
+        return 0;
+    }
+}
+
+/* Bit 0 of byte 1 asks for a page; where it is clear none may be named. */
+static uint64_t inquiry(struct call *call)
+{
+    enum { EVPD = 0x01 };
+    uint8_t code = call->cdb[2];
+    uint64_t allocation = load(call->cdb + 3, 2);
+    uint8_t page[PAGE_ROOM] = {0};
+    size_t bytes;
+
+    if ((call->cdb[1] & EVPD) == 0) {
+        if (code != 0)
+            return RIDGE_CDB_FIELD;
+        return give(call, standard_data, sizeof standard_data, allocation);
+    }
+    bytes = put_page(code, page);
+    if (bytes == 0)
+        return RIDGE_CDB_FIELD;
+    return give(call, page, bytes, allocation);
 }
 
 /* ---- GET LBA STATUS ---- */

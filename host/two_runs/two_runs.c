@@ -57,6 +57,8 @@ struct figures {
     uint64_t other_good_same; /* of these, by WRITE SAME */
     uint64_t shut_out_codes[256];
     uint64_t shut_out_status; /* GET LBA STATUS, which shares its code */
+    uint64_t shut_out_pages[256]; /* told by INQUIRY, or not listed */
+    uint64_t other_pages;
     uint64_t shut_out_answers[16];
     uint64_t take_overs;   /* PREEMPT with key 0 that was served */
     uint64_t shutting_out; /* of these, such as shut somebody out */
@@ -112,19 +114,14 @@ static bool is_status(const struct request *request)
     return request->cdb[0] == 0x9E && (request->cdb[1] & 0x1F) == 0x12;
 }
 
-/* READ would conflict for it: under 3 all but the holder, under 6 and 8 all
-   that are not registered. A nexus above 15 is never registered. */
-static bool is_shut_out(const struct ridge_rights *rights, uint64_t nexus)
+/* Whether an INQUIRY was told its page, or refused one that is not listed. */
+static bool page_answered(const struct request *request, uint64_t answer)
 {
-    switch (rights->type) {
-    case 3:
-        return nexus != rights->holder;
-    case 6:
-    case 8:
-        return key_of(rights, nexus) == 0;
-    default:
-        return false;
-    }
+    uint64_t due = inquiry_bytes(request->cdb) == 0 ? RIDGE_CDB_FIELD
+                                                    : RIDGE_GOOD;
+
+    return request->cdb_bytes == 6 && request->cdb[0] == 0x12 &&
+           (request->cdb[1] & 0x01) != 0 && answer == due;
 }
 
 static void execute(struct run *run, struct side *side)
@@ -275,6 +272,8 @@ static void shut_out_call(struct run *run)
     run->figures.shut_out_calls++;
     run->figures.shut_out_codes[run->request.cdb[0]]++;
     run->figures.shut_out_status += is_status(&run->request) ? 1 : 0;
+    if (page_answered(&run->request, run->left.answer))
+        run->figures.shut_out_pages[run->request.cdb[2]]++;
     run->figures.shut_out_answers[run->left.answer & 15]++;
 }
 
@@ -292,6 +291,8 @@ static void other_call(struct run *run, struct side *side)
     random_fill(&run->random, run->data_in, run->request.data_in_bytes);
     execute(run, side);
     run->figures.other_calls++;
+    if (page_answered(&run->request, side->answer))
+        run->figures.other_pages++;
     if (!map_kept(side)) {
         run->figures.other_good_writes++;
         run->figures.other_good_same += run->request.cdb[0] == 0x93 ? 1 : 0;
@@ -349,21 +350,35 @@ static bool print_count(const char *name, uint64_t count, uint64_t floor)
     return false;
 }
 
-static bool print_figures(const struct figures *figures)
+/* Page by page, and those that are not listed together. */
+static bool print_pages(const struct figures *figures, uint64_t steps)
 {
-    const uint64_t *codes = figures->shut_out_codes;
-    uint64_t steps = figures->steps < STEPS_LONG ? 0 : figures->steps;
+    static const uint8_t listed[] = {0x00, 0xB0, 0xB2};
+    const uint64_t *pages = figures->shut_out_pages;
+    uint64_t others = 0;
     bool enough = true;
 
-    enough &= print_count("pairs", figures->pairs, steps / STEPS_OF_PAIR);
-    enough &= print_count("reservation-out calls compared",
-                          figures->out_calls, steps / 10);
-    enough &= print_count("of these take-overs", figures->take_overs,
-                          steps / 1000);
-    enough &= print_count("of these shutting somebody out",
-                          figures->shutting_out, steps / 2000);
-    enough &= print_count("shut-out calls compared", figures->shut_out_calls,
-                          steps / 10);
+    for (unsigned code = 0; code < 256; code++)
+        others += pages[code];
+    for (size_t index = 0; index < sizeof listed; index++) {
+        char name[40];
+
+        snprintf(name, sizeof name, "of these INQUIRY of page %02Xh",
+                 listed[index]);
+        enough &= print_count(name, pages[listed[index]], steps / 2000);
+        others -= pages[listed[index]];
+    }
+    enough &= print_count("of these INQUIRY of a page not listed", others,
+                          steps / 2000);
+    return enough;
+}
+
+static bool print_shut_out(const struct figures *figures, uint64_t steps)
+{
+    const uint64_t *codes = figures->shut_out_codes;
+    bool enough = print_count("shut-out calls compared",
+                              figures->shut_out_calls, steps / 10);
+
     enough &= print_count("of these by one that a take-over removed",
                           figures->removed_calls, steps / 1000);
     enough &= print_count("of these READ", codes[0x28] + codes[0x88],
@@ -376,16 +391,35 @@ static bool print_figures(const struct figures *figures)
     enough &= print_count("of these UNMAP", codes[0x42], steps / 100);
     enough &= print_count("of these reservation-out", codes[RESERVE_OUT_CODE],
                           steps / 100);
+    enough &= print_pages(figures, steps);
+    printf("answers of shut-out calls:");
+    for (unsigned answer = 0; answer <= RIDGE_BUFFER_SHORT; answer++)
+        printf(" %u: %" PRIu64, answer, figures->shut_out_answers[answer]);
+    printf("\n");
+    return enough;
+}
+
+static bool print_figures(const struct figures *figures)
+{
+    uint64_t steps = figures->steps < STEPS_LONG ? 0 : figures->steps;
+    bool enough = true;
+
+    enough &= print_count("pairs", figures->pairs, steps / STEPS_OF_PAIR);
+    enough &= print_count("reservation-out calls compared",
+                          figures->out_calls, steps / 10);
+    enough &= print_count("of these take-overs", figures->take_overs,
+                          steps / 1000);
+    enough &= print_count("of these shutting somebody out",
+                          figures->shutting_out, steps / 2000);
+    enough &= print_shut_out(figures, steps);
     enough &= print_count("other calls between", figures->other_calls,
                           steps / 10);
     enough &= print_count("of these changed a map or block",
                           figures->other_good_writes, steps / 100);
     enough &= print_count("of these by WRITE SAME", figures->other_good_same,
                           steps / 500);
-    printf("answers of shut-out calls:");
-    for (unsigned answer = 0; answer <= RIDGE_BUFFER_SHORT; answer++)
-        printf(" %u: %" PRIu64, answer, figures->shut_out_answers[answer]);
-    printf("\n");
+    enough &= print_count("of these INQUIRY of a page", figures->other_pages,
+                          steps / 500);
     return enough;
 }
 

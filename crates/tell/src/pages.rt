@@ -54,7 +54,7 @@ pub fn supported() -> [u8; 7]
     [0x00, 0x00, 0x00, 0x03, 0x00, 0xB0, 0xB2]
 }
 
-// Page B0h: WSNZ and five limits; all others are 0.
+// Page B0h: WSNZ and four limits; all others are 0.
 pub fn block_limits() -> [u8; 64]
     ensures { λ r. ⌜ r ≡ limitsPage ⌝ }
 {

@@ -75,6 +75,10 @@ extern "C" {
 #define RIDGE_VERSION_PATCH 0
 #define RIDGE_VERSION "2.0.0"
 
+/*
+ * The most blocks and the most descriptors a host reads from the unit itself:
+ * INQUIRY, page B0h.
+ */
 enum ridge_bound {
     RIDGE_BLOCK_BYTES = 512,    /* bytes of one block, and of one slot */
     RIDGE_SLOTS = 128,          /* most slots a pool may have; least is 1 */

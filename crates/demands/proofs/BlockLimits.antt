@@ -1,17 +1,16 @@
 -- What the limits pages say of the commands on the blocks, proved of `step`: when an UNMAP is refused for its descriptors, that UNMAP and
 -- WRITE SAME unmap what they name, that unmapped blocks are read as zeros, and byte 14 of READ CAPACITY(16).
 -- Assumes nothing.
-use mathlib.Core.Path.{_≡_, refl, sym, ap, ap₂, _∙_, subst}
+use mathlib.Core.Path.{_≡_, refl, sym, ap, _∙_, subst}
 use mathlib.Core.Logic.{_↔_}
 use mathlib.Core.Bool.{Bool, true, false, not, _&&_, _||_, and-false, and-true}
-use mathlib.Core.List.{List, [], _∷_, _++_, append-assoc}
+use mathlib.Core.List.{List, [], _∷_}
 use Prim.Native.Nat.{ℕ, zero, suc, _+_, _*_, _≤_, _<_}
 use native.Mathlib.Omega.{arith}
-use native.Mathlib.Nat.{add-zero, add-suc, suc-add}
 use borrow.Author.Tests.{lt-ltb, le-ltb, lt-leb, ltb-true}
 use lib.Dec.{T, leb, ltb}
-use lib.ListN.{length, take, drop}
-use lib.Seq.{take-at, drop-append-add, getD-take}
+use lib.ListN.{length, drop}
+use lib.Seq.{getD-take}
 use Rattle.fields.specs.Bytes.{part, zeros}
 use Rattle.fields.specs.Field.{field, byte, bytes}
 use Rattle.fields.proofs.BytesLaws.{put-front}
@@ -20,8 +19,8 @@ use Rattle.answers.specs.declared.Answer.the-variants.{Short}
 use Rattle.answers.specs.Answers.{outOfRange, listLength, listField, codesOf, numberOf}
 use Rattle.answers.specs.Order.{_if_, first, firstOf, ifGoodBy, refuses}
 use Rattle.answers.proofs.OrderLaws.{row-pass, row-stop}
-use Rattle.pool.specs.Pool.{Pool, mapped, readBlock, readBlocks, unmapBlocks}
-use Rattle.pool.proofs.Reading.{read-unmapped, length-readBlock}
+use Rattle.pool.specs.Pool.{Pool, mapped, unmapBlocks}
+use Rattle.pool.proofs.Reading.{read-unmapped, block-read}
 use Rattle.descriptors.specs.declared.Descriptor.{Descriptor}
 use Rattle.descriptors.specs.Descriptors.{descriptorAt, fails, someFails}
 use Rattle.descriptors.proofs.Takes.{passes-within, none-here, none-later}
@@ -140,22 +139,6 @@ same-unmaps s c a e k b t =
     named-unmapped _ (mapped (s .pool .owners) b) (coversRange (a .request) b) (writes-same .clears-map s c a e k b) t
 
 -- ---- what is read
-
--- block i of those read one after another, whatever stands behind them
-block-read : (p : Pool) → length (p .medium) ≡ 512 * length (p .owners) → (a n i : ℕ) (rest : List ℕ) → i < n
-    → part (readBlocks p a n ++ rest) (512 * i) 512 ≡ readBlock p (a + i)
-unfolding readBlocks part
-block-read p w a zero i rest h = absurd (omega arith)
-block-read p w a (suc n) zero rest h =
-    ap (take 512) (append-assoc (readBlock p a) (readBlocks p (suc a) n) rest)
-    ∙ take-at (readBlock p a) (readBlocks p (suc a) n ++ rest) 512 (length-readBlock p a w)
-    ∙ ap (readBlock p) (sym (add-zero a))
-block-read p w a (suc n) (suc i) rest h =
-    let next : 512 * suc i ≡ length (readBlock p a) + 512 * i = omega (arith, length-readBlock p a w) in
-    ap₂ (λ (l : List ℕ) (k : ℕ). part l k 512) (append-assoc (readBlock p a) (readBlocks p (suc a) n) rest) next
-    ∙ ap (take 512) (drop-append-add (readBlock p a) (readBlocks p (suc a) n ++ rest) (512 * i))
-    ∙ block-read p w (suc a) n i rest (omega arith)
-    ∙ ap (readBlock p) (suc-add a i ∙ sym (add-suc a i))
 
 pub zeros-read : ZerosRead step
 unfolding seenOf ifGoodBy refuses

@@ -1,6 +1,6 @@
 -- "Prove that every published limit is the enforced one": the laws of the limits, proved of `step`.
 -- Assumes nothing.
-use mathlib.Core.Path.{_≡_, refl, ap, _∙_}
+use mathlib.Core.Path.{_≡_, ap, _∙_}
 use mathlib.Core.Logic.{_↔_}
 use mathlib.Core.Bool.{not}
 use mathlib.Core.List.{List}

@@ -24,7 +24,7 @@ use Rattle.demands.specs.Contents.{AsksFor, Asks, byItself, inRange, tra
 use Rattle.demands.specs.Reservations.{GoodBy, isRegistered, typeIn, senderOf, sameSender, conflictTable, column, says, stopped, Reservations}
 use Rattle.demands.specs.Telling.{Telling}
 use Rattle.demands.specs.WriteSame.{isNdob, sent, covers, WritesSame}
-use Rattle.demands.specs.WrongBuilds.{keepingAtClear, harsh, unreserved, lax, cleared14, bare, lastMissed, openStatus, shown, showing, clears, reads, writes, asksCapacity, writesSame, logged, guarded, asksStatus}
+use Rattle.demands.specs.WrongBuilds.{keepingAtClear, harsh, unreserved, lax, laid, bare, lastMissed, openStatus, shown, showing, clears, reads, writes, asksCapacity, writesSame, logged, guarded, asksStatus}
 use Rattle.demands.proofs.Computing.{meaning}
 
 -- ---- CLEAR keeps the registrations
@@ -92,11 +92,11 @@ unfolding meaning showing asksCapacity
 bare-asked = record { request = _; is = refl; command = refl }
 
 bare-good : GoodBy bare shown asksCapacity
-unfolding meaning shown showing asksCapacity bare cleared14
+unfolding meaning shown showing asksCapacity bare laid
 bare-good = refl
 
 bare-tells : byte 14 (bare shown asksCapacity .seen .dataIn) ≡ 0
-unfolding meaning shown showing asksCapacity bare cleared14
+unfolding meaning shown showing asksCapacity bare laid
 bare-tells = refl
 
 law-tells : byte 14 (seenOf Good (take (allocationIn (bare-asked .request)) (capacity16Data (shown .unit .capacity))) asksCapacity .dataIn) ≡ 0xC0

@@ -17,8 +17,8 @@ use Rattle.demands.specs.History.{Build}
 use Rattle.demands.specs.Contents.{Asks, isTransfer, longOf, transferCdb, cdb10}
 use Rattle.demands.specs.Reservations.{GoodBy}
 use Rattle.demands.specs.Limits.{AsksPage, returnedBy, Reads, pageCodes, transferLength, Heard, Fielded, Unprotected, Limits}
-use Rattle.demands.specs.WrongBuilds.{shown, showing}
-use Rattle.demands.specs.WrongLimits.{isFor, laid, understated, forProvisioning, unlistedServed, mute, asksFor, reads128}
+use Rattle.demands.specs.WrongBuilds.{laid, shown, showing}
+use Rattle.demands.specs.WrongLimits.{isFor, understated, forProvisioning, unlistedServed, mute, asksFor, reads128}
 use Rattle.demands.proofs.Computing.{meaning}
 
 -- ---- pages and calls on the store shown

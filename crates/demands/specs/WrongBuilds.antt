@@ -47,15 +47,15 @@ lax s c =
     (record { seen = step (unreserved s) c .seen; store = record { unit = s .unit; pool = step (unreserved s) c .store .pool } })
     (step s c)
 
--- what is seen with byte 14 of the data 0
-unfoldable pub cleared14 : Seen → Seen
-cleared14 x = record { answer = x .answer; returned = x .returned; dataIn = put (x .dataIn) 14 (0 ∷ []); sense = x .sense }
+-- what is seen with these bytes laid over the data from byte i on
+unfoldable pub laid : ℕ → List ℕ → Seen → Seen
+laid i bs x = record { answer = x .answer; returned = x .returned; dataIn = put (x .dataIn) i bs; sense = x .sense }
 
 -- READ CAPACITY(16) has 0 in byte 14: no thin provisioning, and no zeros
 unfoldable pub bare : Build
 bare s c =
     cond (eqb (byte 0 (c .cdb)) 0x9E && eqb (step s c .seen .returned) 32)
-    (record { seen = cleared14 (step s c .seen); store = s })
+    (record { seen = laid 14 (0 ∷ []) (step s c .seen); store = s })
     (step s c)
 
 -- WRITE SAME leaves its last block out, and says GOOD

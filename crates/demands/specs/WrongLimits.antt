@@ -2,27 +2,23 @@
 -- that it does not list, one serves no page at all.
 -- Assumes nothing.
 use mathlib.Core.Bool.{Bool, _&&_, cond}
-use mathlib.Core.List.{List, [], _∷_, _++_}
+use mathlib.Core.List.{[], _∷_, _++_}
 use Prim.Native.Nat.{ℕ}
 use lib.Dec.{eqb}
 use Rattle.fields.specs.Bytes.{put}
 use Rattle.fields.specs.Field.{byte, bit, bytes}
 use Rattle.answers.specs.Answers.{invalidField}
-use Rattle.store.specs.Store.{Call, Seen, seenOf}
+use Rattle.store.specs.Store.{Call, seenOf}
 use Rattle.store.specs.Step.{step}
 use Rattle.demands.specs.History.{Build}
 use Rattle.demands.specs.Contents.{cdb10, callWith}
-use Rattle.demands.specs.WrongBuilds.{showing}
+use Rattle.demands.specs.WrongBuilds.{laid, showing}
 
 -- ---- the builds
 
 -- an INQUIRY for this page
 unfoldable pub isFor : ℕ → Call → Bool
 isFor code c = eqb (byte 0 (c .cdb)) 0x12 && bit 0 (byte 1 (c .cdb)) && eqb (byte 2 (c .cdb)) code
-
--- what is seen with these bytes laid over the data from byte i on
-unfoldable pub laid : ℕ → List ℕ → Seen → Seen
-laid i bs x = record { answer = x .answer; returned = x .returned; dataIn = put (x .dataIn) i bs; sense = x .sense }
 
 -- "128 blocks a transfer": page B0h, where all of it is asked for, says 127, and 128 pass
 unfoldable pub understated : Build

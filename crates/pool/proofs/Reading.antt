@@ -3,12 +3,12 @@
 -- Assumes nothing.
 use mathlib.Core.Path.{_≡_, refl, sym, ap, ap₂, _∙_, subst}
 use mathlib.Core.Bool.{true, false}
-use mathlib.Core.List.{List, _++_}
+use mathlib.Core.List.{List, _++_, append-assoc}
 use Prim.Native.Nat.{ℕ, zero, suc, _+_, _*_, _≤_, _<_}
 use native.Mathlib.Omega.{arith}
 use native.Mathlib.Nat.{add-zero, add-suc, suc-add}
 use lib.ListN.{length, take, drop, length-append}
-use lib.Seq.{take-add, drop-drop}
+use lib.Seq.{take-add, take-at, drop-drop, drop-append-add}
 use Rattle.fields.specs.Bytes.{part, zeros}
 use Rattle.fields.proofs.BytesLaws.{length-part, length-zeros, zeros-add}
 use Rattle.fields.proofs.Tests.{test, true→T, T-true, T-false}
@@ -117,6 +117,22 @@ length-readBlocks p a (suc n) w =
     let e = length-append (readBlock p a) (readBlocks p (suc a) n) in
     let f = length-readBlock p a w in
     let ih = length-readBlocks p (suc a) n w in omega arith
+
+-- block i of those read one after another, whatever stands behind them
+pub block-read : (p : Pool) → length (p .medium) ≡ blockBytes * length (p .owners) → (a n i : ℕ) (rest : List ℕ) → i < n
+    → part (readBlocks p a n ++ rest) (blockBytes * i) blockBytes ≡ readBlock p (a + i)
+unfolding readBlocks part
+block-read p w a zero i rest h = absurd (omega arith)
+block-read p w a (suc n) zero rest h =
+    ap (take blockBytes) (append-assoc (readBlock p a) (readBlocks p (suc a) n) rest)
+    ∙ take-at (readBlock p a) (readBlocks p (suc a) n ++ rest) blockBytes (length-readBlock p a w)
+    ∙ ap (readBlock p) (sym (add-zero a))
+block-read p w a (suc n) (suc i) rest h =
+    let next : blockBytes * suc i ≡ length (readBlock p a) + blockBytes * i = omega (arith, length-readBlock p a w) in
+    ap₂ (λ (l : List ℕ) (k : ℕ). part l k blockBytes) (append-assoc (readBlock p a) (readBlocks p (suc a) n) rest) next
+    ∙ ap (take blockBytes) (drop-append-add (readBlock p a) (readBlocks p (suc a) n ++ rest) (blockBytes * i))
+    ∙ block-read p w (suc a) n i rest (omega arith)
+    ∙ ap (readBlock p) (suc-add a i ∙ sym (add-suc a i))
 
 pub read-after-write : (p : Pool) (a n : ℕ) (bs : List ℕ) → length (p .medium) ≡ blockBytes * length (p .owners) → blockBytes * n ≤ length bs
     → unmapped (p .owners) a n ≤ free (p .owners) → readBlocks (writeBlocks p a n bs) a n ≡ take (blockBytes * n) bs

@@ -16,10 +16,16 @@
  * data-out and guards never; 11 for each of the reasons that come first in 01's
  * order).
  *
+ * Of sense all 18 bytes are compared, so the place of a wrong field too, and
+ * those past them. It holds random bytes before a call, or what an answer 2 or
+ * 5 left there, so that a place left over shows. And what Q-4 says of all calls
+ * holds: answers 2 and 5 have a place, one within the CDB or the list, no other
+ * answer has one.
+ *
  * Exit status: 0 no difference and every answer met often enough; 1 a
  * difference, which is printed; 2 an answer, command, take-over, cell of the
- * conflict rule, occasion of Q-1 or Q-2 or damage too rare (asked of long runs
- * alone), bad usage.
+ * conflict rule, occasion of Q-1, Q-2 or Q-4 or damage too rare (asked of long
+ * runs alone), bad usage.
  */
 
 #include <inttypes.h>
@@ -114,6 +120,8 @@ struct run {
     struct world before;
     struct world ridge;
     struct world second;
+    uint8_t sense_of_cdb[SENSE_ROOM]; /* as the last answer 2 left it */
+    uint8_t sense_of_list[SENSE_ROOM]; /* and the last 5 */
     struct figures figures;
 };
 
@@ -270,6 +278,27 @@ static bool may_store(const struct run *run)
     }
 }
 
+/* What Q-4 says of every call that has sense: the field lies within what it is
+   a field of, and where there is none the four bytes are 0. */
+static void hold_place(struct run *run)
+{
+    const uint8_t *sense = run->ridge.sense;
+    size_t first_byte = (size_t)(sense[16] << 8 | sense[17]);
+    bool of_cdb = run->ridge.answer == RIDGE_CDB_FIELD;
+    bool of_list = run->ridge.answer == RIDGE_LIST_FIELD;
+    uint8_t upper_bits = of_cdb ? 0xC8 : of_list ? 0x88 : 0x00;
+    size_t bound = of_cdb    ? run->lending.bytes[CDB]
+                   : of_list ? run->lending.bytes[DATA_OUT]
+                             : 1;
+
+    if (sense[14] != 0)
+        fail(run, "byte 14 of sense is not 0");
+    if ((sense[15] & 0xF8) != upper_bits)
+        fail(run, "byte 15 of sense tells of another answer");
+    if (first_byte >= bound || (upper_bits == 0 && sense[15] != 0))
+        fail(run, "sense points where there is no field");
+}
+
 /* What 01 says of every call, whichever command it is. */
 static void hold_rules(struct run *run)
 {
@@ -291,6 +320,8 @@ static void hold_rules(struct run *run)
     hold_unchanged(run, DATA_OUT, 0);
     hold_unchanged(run, DATA_IN, (size_t)run->ridge.returned);
     hold_unchanged(run, SENSE, has_sense ? RIDGE_SENSE_BYTES : 0);
+    if (has_sense)
+        hold_place(run);
 }
 
 /* ---- Making calls ---- */
@@ -363,6 +394,27 @@ static void mimic_behind(struct run *run)
             run->store.owners[random_below(&run->random, run->store.slots)];
 }
 
+/* The sense buffer that an answer 2 or 5 was given in, lent once more. */
+static void lend_sense_again(struct run *run)
+{
+    uint64_t kind = random_below(&run->random, 100);
+
+    if (kind < 20)
+        put_part(run, SENSE, run->sense_of_cdb, SENSE_ROOM);
+    else if (kind < 40)
+        put_part(run, SENSE, run->sense_of_list, SENSE_ROOM);
+}
+
+static void keep_sense(struct run *run)
+{
+    size_t bytes = run->lending.bytes[SENSE];
+
+    if (run->second.answer == RIDGE_CDB_FIELD)
+        memcpy(run->sense_of_cdb, run->second.sense, bytes);
+    if (run->second.answer == RIDGE_LIST_FIELD)
+        memcpy(run->sense_of_list, run->second.sense, bytes);
+}
+
 /* Fills `before`, mostly with the store as it is. */
 static void prepare(struct run *run)
 {
@@ -384,6 +436,7 @@ static void prepare(struct run *run)
              RIDGE_BLOCK_BYTES * run->store.slots);
     put_part(run, CDB, request->cdb, request->cdb_bytes);
     put_part(run, DATA_OUT, request->data_out, request->data_out_bytes);
+    lend_sense_again(run);
     if (!whole && !sizes)
         damage_lent(run);
     mimic_behind(run);
@@ -502,7 +555,6 @@ static void count_cell(struct run *run, uint8_t code)
         run->figures.cells[cell]++;
 }
 
-/* Of an answer 11 nothing tells: the state may be invalid. */
 static void count_occasions(struct run *run)
 {
     const struct world *before = &run->before;
@@ -512,16 +564,17 @@ static void count_occasions(struct run *run)
                             .slots = bytes[OWNERS] / 8,
                             .nexus = run->lending.nexus,
                             .cdb = before->cdb,
+                            .cdb_bytes = bytes[CDB],
                             .data_out = before->data_out,
                             .data_out_bytes = bytes[DATA_OUT],
                             .data_in = run->second.data_in,
                             .data_in_bytes = bytes[DATA_IN],
+                            .sense = before->sense,
+                            .sense_bytes = bytes[SENSE],
                             .answer = run->second.answer,
                             .returned = run->second.returned};
 
-    if (run->second.answer != RIDGE_UNUSABLE &&
-        bytes[CDB] == (before->cdb[0] == 0x12 ? 6 : 16))
-        occasions_count(&call, run->figures.occasions);
+    occasions_count(&call, run->figures.occasions);
 }
 
 static void count_call(struct run *run)
@@ -564,6 +617,7 @@ static void one_call(struct run *run)
     compare_libraries(run);
     hold_rules(run);
     count_call(run);
+    keep_sense(run);
     if (run->lending.whole)
         keep_store(run);
 }
@@ -734,13 +788,18 @@ static bool print_cells(const struct figures *figures, uint64_t floor)
 static bool print_occasions(const struct figures *figures, uint64_t floor)
 {
     bool enough = true;
+    size_t least = 0;
 
     for (size_t occasion = 0; occasion < OCCASIONS; occasion++) {
         uint64_t met = figures->occasions[occasion];
 
         printf("%s: %" PRIu64 "\n", occasion_name(occasion), met);
         enough &= often_enough(occasion_name(occasion), met, floor);
+        if (met < figures->occasions[least])
+            least = occasion;
     }
+    printf("rarest of the %d occasions: %s, %" PRIu64 "\n", OCCASIONS,
+           occasion_name(least), figures->occasions[least]);
     return enough;
 }
 

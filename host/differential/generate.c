@@ -424,6 +424,9 @@ static void generate_range(struct random *random, const struct store *store,
 
 /* ---- The commands ---- */
 
+typedef void make_function(struct random *random, const struct store *store,
+                           struct request *request);
+
 static void start_cdb(struct random *random, struct request *request,
                       uint8_t code, size_t bytes)
 {
@@ -578,6 +581,10 @@ static void make_unmap(struct random *random, const struct store *store,
     if (random_percent(random, 12))
         length = RANDOM_CHOICE(random, 0, 1, 7, 8, 9, 23, 24, 25, 263, 264,
                                279, 280, length + 15, length + 16, 256);
+    if (descriptors == RIDGE_DESCRIPTORS && random_percent(random, 12))
+        named += 16;
+    else if (descriptors == RIDGE_DESCRIPTORS && random_percent(random, 12))
+        length += 16;
     random_fill(random, request->data_out, 8 + 16 * 40);
     put(request->data_out + 2, 2, named);
     put_descriptors(random, store, request, descriptors);
@@ -992,12 +999,182 @@ static void make_reserve_out(struct random *random, const struct store *store,
     put(request->data_out, 8,
         random_percent(random, 90) ? key : generate_action_key(random, rights));
     put(request->data_out + 8, 8, generate_action_key(random, rights));
-    if (!random_percent(random, 5))
+    if (!random_percent(random, action == 0 || action == 6 ? 5 : 50))
         request->data_out[20] &= 0xF2;
     request->data_out_bytes = generate_size(random, 24);
     if (request->data_out_bytes < 24 && random_percent(random, 60))
         request->data_out_bytes = 24;
 }
+
+/* ---- Wrong fields ---- */
+
+/* Each field of a command is made wrong by a draw of its own, so that every two
+   of them meet, and each is met alone. */
+static bool is_drawn(struct random *random)
+{
+    return random_percent(random, 50);
+}
+
+/* Of a field of so many bits, from that bit up: mostly one bit alone. */
+static uint8_t wrong_bits(struct random *random, unsigned lowest, unsigned bits)
+{
+    uint64_t one = UINT64_C(1) << random_below(random, bits);
+    uint64_t any = 1 + random_below(random, (UINT64_C(1) << bits) - 1);
+
+    return (uint8_t)((random_percent(random, 60) ? one : any) << lowest);
+}
+
+static uint64_t wrong_count(struct random *random)
+{
+    return RANDOM_CHOICE(random, 129, 129, 130, 255, 256, 257, 0x8000, 0xFFFF);
+}
+
+static void spoil_transfer(struct random *random, uint8_t *cdb)
+{
+    uint64_t count = wrong_count(random);
+
+    cdb[1] &= 0x1F;
+    if (is_drawn(random))
+        cdb[1] |= wrong_bits(random, 5, 3);
+    if (!is_drawn(random))
+        return;
+    if (cdb[0] >= 0x80)
+        put(cdb + 10, 4, count);
+    else
+        put(cdb + 7, 2, count);
+}
+
+static void spoil_write_same(struct random *random, uint8_t *cdb)
+{
+    uint64_t count = is_drawn(random) ? 0 : wrong_count(random);
+
+    cdb[1] &= 0x0F;
+    if (is_drawn(random))
+        cdb[1] |= wrong_bits(random, 5, 3);
+    if (is_drawn(random))
+        cdb[1] |= 0x10;
+    if (is_drawn(random))
+        put(cdb + 10, 4, count);
+}
+
+/* An action that is not listed, at times one that a bit parts from a listed
+   one. */
+static void spoil_action(struct random *random, uint8_t *cdb)
+{
+    uint64_t of_9e = RANDOM_CHOICE(random, 0x00, 0x02, 0x11, 0x13, 0x1F);
+    uint64_t of_5e = RANDOM_CHOICE(random, 2, 3, 8, 9, 0x10, 0x11, 0x1F);
+    uint64_t of_5f = RANDOM_CHOICE(random, 5, 7, 8, 9, 0x0C, 0x10, 0x11, 0x12,
+                                   0x14, 0x1F);
+
+    cdb[1] &= 0xE0;
+    cdb[1] |= (uint8_t)(cdb[0] == 0x9E   ? of_9e
+                        : cdb[0] == 0x5E ? of_5e
+                                         : of_5f);
+}
+
+static void spoil_scope_and_type(struct random *random, uint8_t *cdb)
+{
+    uint64_t above = 9 + random_below(random, 7);
+
+    cdb[2] = (uint8_t)RANDOM_CHOICE(random, 1, 3, 5, 6, 7, 8);
+    if (is_drawn(random))
+        cdb[2] = (uint8_t)RANDOM_CHOICE(random, 0, 2, 4, above);
+    if (is_drawn(random))
+        cdb[2] |= wrong_bits(random, 4, 4);
+}
+
+/* Any of the three flags, with any of the bits that are ignored. */
+static void spoil_flags(struct random *random, struct request *request)
+{
+    uint8_t flags = wrong_bits(random, 0, 3);
+
+    request->cdb[1] &= 0xE0;
+    request->cdb[1] |= (uint8_t)RANDOM_CHOICE(random, 0, 6);
+    request->data_out[20] &= 0xF2;
+    request->data_out[20] |= (uint8_t)((flags & 6) << 1 | (flags & 1));
+}
+
+/* Scope and type are of no account in actions 0, 3 and 6; in all actions the
+   length comes after them. */
+static void spoil_reserve_out(struct random *random, struct request *request)
+{
+    uint64_t kind = random_below(random, 10);
+    uint64_t typed = RANDOM_CHOICE(random, 1, 2, 4);
+    uint64_t untyped = RANDOM_CHOICE(random, 0, 3, 6);
+
+    if (kind < 3) {
+        spoil_flags(random, request);
+        return;
+    }
+    spoil_scope_and_type(random, request->cdb);
+    request->cdb[1] &= 0xE0;
+    request->cdb[1] |= (uint8_t)(kind < 9 ? typed : untyped);
+    if (kind < 5)
+        spoil_action(random, request->cdb);
+    if (random_percent(random, 15))
+        request->cdb[8] ^= 0x08;
+}
+
+static void spoil_fields(struct random *random, struct request *request)
+{
+    uint8_t *cdb = request->cdb;
+
+    switch (cdb[0]) {
+    case 0x28:
+    case 0x2A:
+    case 0x88:
+    case 0x8A:
+        spoil_transfer(random, cdb);
+        break;
+    case 0x93:
+        spoil_write_same(random, cdb);
+        break;
+    case 0x12:
+        if (is_drawn(random))
+            cdb[2] ^= wrong_bits(random, 0, 8);
+        break;
+    case 0x42:
+        cdb[1] |= is_drawn(random) ? 0x01 : 0x00;
+        break;
+    case 0x5E:
+    case 0x9E:
+        if (is_drawn(random))
+            spoil_action(random, cdb);
+        break;
+    case 0x5F:
+        spoil_reserve_out(random, request);
+        break;
+    default:
+        break;
+    }
+}
+
+/* A call with wrong fields; NACA comes before all of them, so it is drawn more
+   seldom. */
+static void make_wrong_fields(struct random *random, const struct store *store,
+                              struct request *request)
+{
+    static make_function *const made[] = {
+        make_read,             make_read,
+        make_write,            make_write,
+        make_write_same,       make_write_same,
+        make_inquiry,          make_inquiry_page,
+        make_unmap,            make_reserve_in,
+        make_read_capacity_16, make_get_lba_status,
+        make_test_unit_ready,  make_read_capacity_10,
+        make_reserve_out,      make_reserve_out,
+        make_reserve_out,      make_reserve_out,
+        make_reserve_out,
+    };
+
+    made[random_below(random, sizeof made / sizeof *made)](random, store,
+                                                           request);
+    spoil_fields(random, request);
+    if (random_percent(random, 33))
+        request->cdb[request->cdb_bytes - 1] |= 0x04;
+}
+
+/* ---- Any call ---- */
 
 /* The two draws stand apart: C leaves the order of arguments open, and a seed
    must give the same calls whatever the compiler. */
@@ -1011,23 +1188,20 @@ static void make_other_code(struct random *random, const struct store *store,
     start_cdb(random, request, code, bytes);
 }
 
-typedef void make_function(struct random *random, const struct store *store,
-                           struct request *request);
-
 /* How often each command is made, in parts of the sum. */
-enum { SHARES = 105 };
+enum { SHARES = 121 };
 
 static const struct {
     unsigned share;
     make_function *make;
 } makers[] = {
-    {3, make_test_unit_ready},  {4, make_inquiry},
+    {3, make_test_unit_ready},  {5, make_inquiry},
     {5, make_inquiry_page},     {3, make_read_capacity_10},
     {4, make_read_capacity_16}, {14, make_read},
     {16, make_write},           {10, make_unmap},
-    {9, make_write_same},       {9, make_get_lba_status},
+    {9, make_write_same},       {10, make_get_lba_status},
     {7, make_reserve_in},       {19, make_reserve_out},
-    {2, make_other_code},
+    {14, make_wrong_fields},    {2, make_other_code},
 };
 
 static void make_any(struct random *random, const struct store *store,

@@ -1,7 +1,7 @@
 /*
- * occasions.c - what calls of WRITE SAME, GET LBA STATUS and INQUIRY came to;
- * occasions.h says what for. What is right does not stand here: of answers it
- * is only asked that there were such, with such a call before them.
+ * occasions.c - what calls came to; occasions.h says what for. What is right
+ * does not stand here: of answers it is only asked that there were such, with
+ * such a call before them.
  */
 
 #include "occasions.h"
@@ -29,6 +29,20 @@ enum {
     TOLD_SHUT_OUT,
     TOLD_OCCASIONS
 };
+
+/* Of so many fields, those that are wrong together make one of so many sets. */
+enum { SETS_OF_2 = 3, SETS_OF_3 = 7, SETS_OF_4 = 15 };
+
+/* After the sets: one bit of WRPROTECT or RDPROTECT alone, by rising bit. */
+enum {
+    TRANSFER_BIT = SETS_OF_3,
+    TRANSFER_OCCASIONS = TRANSFER_BIT + 3,
+    SAME_BIT = SETS_OF_4,
+    SAME_OCCASIONS = SAME_BIT + 3
+};
+
+/* Answers 0 to 8 and 10 to 12. */
+enum { ANSWERS = 12 };
 
 enum {
     SAME_UNMAPS_BY_DATA,
@@ -97,7 +111,62 @@ enum {
     CODE_B2H_REFUSED,
     CODE_OTHER_REFUSED,
     CODE_REFUSED_OTHER_BITS,
-    LAST_OCCASION
+    TEST_UNIT_READY_NACA,
+    READ_CAPACITY_10_NACA,
+    READ_CAPACITY_16_NACA,
+    STATUS_NACA,
+    RESERVE_IN_NACA,
+    CLEAR_NACA,
+    ACTION_OF_9EH,
+    ACTION_OF_9EH_NACA,
+    ACTION_OF_5EH,
+    ACTION_OF_5EH_NACA,
+    STANDARD_FIELDS,
+    PAGE_FIELDS = STANDARD_FIELDS + SETS_OF_2,
+    READ_10_FIELDS = PAGE_FIELDS + SETS_OF_2,
+    READ_16_FIELDS = READ_10_FIELDS + TRANSFER_OCCASIONS,
+    WRITE_10_FIELDS = READ_16_FIELDS + TRANSFER_OCCASIONS,
+    WRITE_16_FIELDS = WRITE_10_FIELDS + TRANSFER_OCCASIONS,
+    SAME_FIELDS = WRITE_16_FIELDS + TRANSFER_OCCASIONS,
+    UNMAP_FIELDS = SAME_FIELDS + SAME_OCCASIONS,
+    UNMAP_OTHER_BITS = UNMAP_FIELDS + SETS_OF_2,
+    UNMAP_16,
+    UNMAP_17_NAMED,
+    UNMAP_17_LENT,
+    UNMAP_17_REFUSED,
+    UNMAP_MORE_REFUSED,
+    UNMAP_17_BEFORE_RANGE,
+    RESERVE_FIELDS,
+    RELEASE_FIELDS = RESERVE_FIELDS + SETS_OF_3,
+    PREEMPT_FIELDS = RELEASE_FIELDS + SETS_OF_3,
+    ACTION_FIELDS = PREEMPT_FIELDS + SETS_OF_3,
+    ACTION_ALONE = ACTION_FIELDS + SETS_OF_3,
+    ACTION_BEFORE_LENGTH,
+    SCOPE_BEFORE_LENGTH,
+    TYPE_BEFORE_LENGTH,
+    SCOPE_BIT,
+    TYPE_0 = SCOPE_BIT + 4,
+    TYPE_2,
+    TYPE_4,
+    TYPE_ABOVE_8,
+    TYPE_OF_REGISTER,
+    TYPE_OF_CLEAR,
+    TYPE_OF_REGISTER_AND_IGNORE,
+    REGISTER_FLAGS,
+    IGNORE_FLAGS = REGISTER_FLAGS + SETS_OF_3,
+    FLAGS_NACA = IGNORE_FLAGS + SETS_OF_3,
+    FLAGS_BEFORE_KEY,
+    FLAGS_BIT_1,
+    FLAGS_BITS_7_TO_4,
+    FLAGS_OF_RESERVE,
+    FLAGS_OF_RELEASE,
+    FLAGS_OF_CLEAR,
+    FLAGS_OF_PREEMPT,
+    ZERO_KEY,
+    ZERO_KEY_WITH_FLAGS,
+    LEFT_BY_CDB,
+    LEFT_BY_LIST = LEFT_BY_CDB + ANSWERS,
+    LAST_OCCASION = LEFT_BY_LIST + ANSWERS
 };
 
 _Static_assert((int)LAST_OCCASION == (int)OCCASIONS, "occasions.h has as many");
@@ -119,6 +188,39 @@ _Static_assert((int)LAST_OCCASION == (int)OCCASIONS, "occasions.h has as many");
     what " good with bits that are ignored",                       \
     what " refused for NACA",                                      \
     what " told to one that is shut out"
+
+/* In the order of the sets: the first field counts 1, the next 2, 4, 8. */
+#define SET(what, fields) what " refused for " fields
+#define SETS_2(what, a, b) SET(what, a), SET(what, b), SET(what, a " and " b)
+#define SETS_3(what, a, b, c)                                      \
+    SETS_2(what, a, b),                                            \
+    SET(what, c),                                                  \
+    SET(what, a " and " c),                                        \
+    SET(what, b " and " c),                                        \
+    SET(what, a ", " b " and " c)
+#define SETS_4(what, a, b, c, d)                                   \
+    SETS_3(what, a, b, c),                                         \
+    SET(what, d),                                                  \
+    SET(what, a " and " d),                                        \
+    SET(what, b " and " d),                                        \
+    SET(what, a ", " b " and " d),                                 \
+    SET(what, c " and " d),                                        \
+    SET(what, a ", " c " and " d),                                 \
+    SET(what, b ", " c " and " d),                                 \
+    SET(what, a ", " b ", " c " and " d)
+
+#define BITS(what)                                                 \
+    SET(what, "bit 5 alone"),                                      \
+    SET(what, "bit 6 alone"),                                      \
+    SET(what, "bit 7 alone")
+
+#define LEFT_NAMES(what)                                           \
+    "answer 0 over " what, "answer 1 over " what,                  \
+    "answer 2 over " what, "answer 3 over " what,                  \
+    "answer 4 over " what, "answer 5 over " what,                  \
+    "answer 6 over " what, "answer 7 over " what,                  \
+    "answer 8 over " what, "answer 10 over " what,                 \
+    "answer 11 over " what, "answer 12 over " what
 
 static const char *const names[OCCASIONS] = {
     "WRITE SAME unmaps by a zero block",
@@ -187,6 +289,70 @@ static const char *const names[OCCASIONS] = {
     "page code B2h refused with bit 0 clear",
     "another page code refused with bit 0 clear",
     "page code refused with bit 0 clear and others set",
+    SET("TEST UNIT READY", "NACA"),
+    SET("READ CAPACITY(10)", "NACA"),
+    SET("READ CAPACITY(16)", "NACA"),
+    SET("GET LBA STATUS", "NACA"),
+    SET("RESERVE IN", "NACA"),
+    SET("CLEAR", "NACA"),
+    SET("9Eh", "its action"),
+    SET("9Eh", "its action and NACA"),
+    SET("5Eh", "its action"),
+    SET("5Eh", "its action and NACA"),
+    SETS_2("INQUIRY", "NACA", "its page code"),
+    SETS_2("INQUIRY of a page", "NACA", "its page code"),
+    SETS_3("READ(10)", "NACA", "RDPROTECT", "its count"),
+    BITS("READ(10)"),
+    SETS_3("READ(16)", "NACA", "RDPROTECT", "its count"),
+    BITS("READ(16)"),
+    SETS_3("WRITE(10)", "NACA", "WRPROTECT", "its count"),
+    BITS("WRITE(10)"),
+    SETS_3("WRITE(16)", "NACA", "WRPROTECT", "its count"),
+    BITS("WRITE(16)"),
+    SETS_4("WRITE SAME", "NACA", "WRPROTECT", "ANCHOR", "its count"),
+    BITS("WRITE SAME"),
+    SETS_2("UNMAP", "NACA", "ANCHOR"),
+    "UNMAP good with bits that are ignored",
+    "UNMAP good with 16 descriptors",
+    "UNMAP good where 17 are named and the list holds 16",
+    "UNMAP good where 16 are named and the list holds 17",
+    "UNMAP refused for 17 descriptors",
+    "UNMAP refused for more than 17 descriptors",
+    "UNMAP refused for their number where one is out of range",
+    SETS_3("RESERVE", "NACA", "its scope", "its type"),
+    SETS_3("RELEASE", "NACA", "its scope", "its type"),
+    SETS_3("PREEMPT", "NACA", "its scope", "its type"),
+    SETS_3("5Fh of an action not listed", "it and NACA", "it and its scope",
+           "it and its type"),
+    "5Fh of an action not listed refused for it alone",
+    "5Fh of an action not listed with a wrong list length",
+    "a scope refused with a wrong list length",
+    "a type refused with a wrong list length",
+    SET("a scope", "bit 4 alone"),
+    SET("a scope", "bit 5 alone"),
+    SET("a scope", "bit 6 alone"),
+    SET("a scope", "bit 7 alone"),
+    "type 0 refused",
+    "type 2 refused",
+    "type 4 refused",
+    "a type above 8 refused",
+    "REGISTER good with another's scope or type",
+    "CLEAR good with another's scope or type",
+    "REGISTER AND IGNORE good with another's scope or type",
+    SETS_3("REGISTER", "bit 3", "bit 2", "bit 0"),
+    SETS_3("REGISTER AND IGNORE", "bit 3", "bit 2", "bit 0"),
+    "flags and NACA refused",
+    "flags refused with a wrong key",
+    "REGISTER good with bit 1 beside the flags",
+    "REGISTER good with bits 7 to 4 beside the flags",
+    "RESERVE good with flags",
+    "RELEASE good with flags",
+    "CLEAR good with flags",
+    "PREEMPT good with flags",
+    "PREEMPT refused for the zero key",
+    "PREEMPT refused for the zero key, with flags",
+    LEFT_NAMES("the place of a CDB field"),
+    LEFT_NAMES("the place of a list field"),
 };
 
 static uint64_t number(const uint8_t *bytes, size_t count)
@@ -608,10 +774,350 @@ static void count_inquiry(const struct occasion *call, uint64_t *counts)
         count_refused_code(call, counts);
 }
 
+/* ---- Fields that are wrong ---- */
+
+static bool has_naca(const struct occasion *call)
+{
+    return (call->cdb[call->cdb_bytes - 1] & 0x04) != 0;
+}
+
+/* Nothing is counted where no field is wrong. */
+static void count_set(unsigned set, uint64_t *counts)
+{
+    if (set != 0)
+        counts[set - 1]++;
+}
+
+static unsigned set_of_3(bool first, bool second, bool third)
+{
+    return (first ? 1u : 0u) | (second ? 2u : 0u) | (third ? 4u : 0u);
+}
+
+/* A bit from `lowest` up that is the only one of its field. */
+static void count_bit(unsigned bits, unsigned lowest, uint64_t *counts)
+{
+    if (is_one_bit(bits >> lowest)) {
+        while ((bits >> lowest & 1) == 0) {
+            bits >>= 1;
+            counts++;
+        }
+        counts[0]++;
+    }
+}
+
+static size_t first_of_transfer(uint8_t code)
+{
+    switch (code) {
+    case 0x28:
+        return READ_10_FIELDS;
+    case 0x88:
+        return READ_16_FIELDS;
+    case 0x2A:
+        return WRITE_10_FIELDS;
+    default:
+        return WRITE_16_FIELDS;
+    }
+}
+
+static void count_transfer_fields(const struct occasion *call, uint64_t *counts)
+{
+    size_t first = first_of_transfer(call->cdb[0]);
+    bool sixteen = call->cdb_bytes == 16;
+    uint64_t count = sixteen ? number(call->cdb + 10, 4)
+                             : number(call->cdb + 7, 2);
+    unsigned protect = call->cdb[1] & 0xE0;
+    unsigned set = set_of_3(has_naca(call), protect != 0, count > 128);
+
+    count_set(set, counts + first);
+    if (set == 2)
+        count_bit(protect, 5, counts + first + TRANSFER_BIT);
+}
+
+static void count_same_fields(const struct occasion *call, uint64_t *counts)
+{
+    uint64_t count = number(call->cdb + 10, 4);
+    unsigned protect = call->cdb[1] & 0xE0;
+    unsigned set = set_of_3(has_naca(call), protect != 0,
+                            (call->cdb[1] & 0x10) != 0);
+
+    set |= count == 0 || count > 128 ? 8u : 0u;
+    count_set(set, counts + SAME_FIELDS);
+    if (set == 2)
+        count_bit(protect, 5, counts + SAME_FIELDS + SAME_BIT);
+}
+
+static void count_inquiry_fields(const struct occasion *call, uint64_t *counts)
+{
+    bool of_page = (call->cdb[1] & 0x01) != 0;
+    bool code = of_page ? inquiry_bytes(call->cdb) == 0 : call->cdb[2] != 0;
+
+    count_set(set_of_3(has_naca(call), code, false),
+              counts + (of_page ? PAGE_FIELDS : STANDARD_FIELDS));
+}
+
+/* Of 9Eh and 5Eh, where the action is the one field beside NACA. */
+static void count_action(const struct occasion *call, bool listed, size_t naca,
+                         size_t action, uint64_t *counts)
+{
+    if (listed)
+        counts[naca]++;
+    else
+        counts[has_naca(call) ? action + 1 : action]++;
+}
+
+/* Where a field of RESERVE OUT was refused with a wrong list length too: it
+   would be the next. */
+static void count_before_length(const struct occasion *call, size_t field,
+                                uint64_t *counts)
+{
+    if (!has_naca(call) && number(call->cdb + 5, 4) != 24)
+        counts[field]++;
+}
+
+static bool is_type(uint8_t type)
+{
+    return type == 1 || type == 3 || (type >= 5 && type <= 8);
+}
+
+static void count_type(uint8_t type, uint64_t *counts)
+{
+    counts[type == 0   ? TYPE_0
+           : type == 2 ? TYPE_2
+           : type == 4 ? TYPE_4
+                       : TYPE_ABOVE_8]++;
+}
+
+static void count_scope_and_type(const struct occasion *call, size_t first,
+                                 uint64_t *counts)
+{
+    unsigned scope = call->cdb[2] & 0xF0;
+    uint8_t type = call->cdb[2] & 0x0F;
+    unsigned set = set_of_3(has_naca(call), scope != 0, !is_type(type));
+
+    count_set(set, counts + first);
+    if (first == ACTION_FIELDS)
+        return;
+    if (set == 2)
+        count_bit(scope, 4, counts + SCOPE_BIT);
+    if (set == 4)
+        count_type(type, counts);
+    count_before_length(call, scope != 0 ? SCOPE_BEFORE_LENGTH
+                                         : TYPE_BEFORE_LENGTH, counts);
+}
+
+static bool has_flags(const struct occasion *call)
+{
+    return call->data_out_bytes > 20 && (call->data_out[20] & 0x0D) != 0;
+}
+
+static void count_reserve_out_fields(const struct occasion *call,
+                                     uint64_t *counts)
+{
+    switch (call->cdb[1] & 0x1F) {
+    case 0:
+    case 6:
+        if (has_flags(call))
+            counts[FLAGS_NACA]++;
+        break;
+    case 1:
+        count_scope_and_type(call, RESERVE_FIELDS, counts);
+        break;
+    case 2:
+        count_scope_and_type(call, RELEASE_FIELDS, counts);
+        break;
+    case 3:
+        counts[CLEAR_NACA]++;
+        break;
+    case 4:
+        count_scope_and_type(call, PREEMPT_FIELDS, counts);
+        break;
+    default:
+        count_scope_and_type(call, ACTION_FIELDS, counts);
+        if (!has_naca(call) && is_type(call->cdb[2]))
+            counts[ACTION_ALONE]++;
+        count_before_length(call, ACTION_BEFORE_LENGTH, counts);
+        break;
+    }
+}
+
+static void count_action_9eh(const struct occasion *call, uint64_t *counts)
+{
+    uint8_t action = call->cdb[1] & 0x1F;
+
+    count_action(call, action == 0x10 || action == 0x12,
+                 action == 0x10 ? READ_CAPACITY_16_NACA : STATUS_NACA,
+                 ACTION_OF_9EH, counts);
+}
+
+/* Of an answer 2, by command. */
+static void count_cdb_fields(const struct occasion *call, uint64_t *counts)
+{
+    switch (call->cdb[0]) {
+    case 0x00:
+        counts[TEST_UNIT_READY_NACA]++;
+        break;
+    case 0x12:
+        count_inquiry_fields(call, counts);
+        break;
+    case 0x25:
+        counts[READ_CAPACITY_10_NACA]++;
+        break;
+    case 0x28:
+    case 0x2A:
+    case 0x88:
+    case 0x8A:
+        count_transfer_fields(call, counts);
+        break;
+    case 0x42:
+        count_set(set_of_3(has_naca(call), (call->cdb[1] & 0x01) != 0, false),
+                  counts + UNMAP_FIELDS);
+        break;
+    case 0x5E:
+        count_action(call, (call->cdb[1] & 0x1F) < 2, RESERVE_IN_NACA,
+                     ACTION_OF_5EH, counts);
+        break;
+    case 0x5F:
+        count_reserve_out_fields(call, counts);
+        break;
+    case 0x93:
+        count_same_fields(call, counts);
+        break;
+    default:
+        count_action_9eh(call, counts);
+        break;
+    }
+}
+
+/* ---- Parameter lists ---- */
+
+/* Whether one of the descriptors in the list reaches past the end. */
+static bool reaches_past(const struct occasion *call, uint64_t descriptors)
+{
+    uint64_t capacity = call->unit->capacity;
+
+    for (uint64_t index = 0; index < descriptors; index++) {
+        const uint8_t *bytes = call->data_out + 8 + 16 * index;
+        uint64_t address = number(bytes, 8);
+
+        if (address > capacity || number(bytes + 8, 4) > capacity - address)
+            return true;
+    }
+    return false;
+}
+
+static void count_unmap(const struct occasion *call, uint64_t *counts)
+{
+    uint64_t length = number(call->cdb + 7, 2);
+    uint64_t named, lent;
+
+    if (call->answer == RIDGE_GOOD && (call->cdb[1] & 0xFE) != 0)
+        counts[UNMAP_OTHER_BITS]++;
+    if (length < 8 || call->data_out_bytes < length)
+        return;
+    named = number(call->data_out + 2, 2) / 16;
+    lent = (length - 8) / 16;
+    if (call->answer == RIDGE_GOOD && named == 16 && lent == 16)
+        counts[UNMAP_16]++;
+    if (call->answer == RIDGE_GOOD && named > 16 && lent == 16)
+        counts[UNMAP_17_NAMED]++;
+    if (call->answer == RIDGE_GOOD && named == 16 && lent > 16)
+        counts[UNMAP_17_LENT]++;
+    if (call->answer != RIDGE_LIST_FIELD)
+        return;
+    counts[named == 17 || lent == 17 ? UNMAP_17_REFUSED
+                                     : UNMAP_MORE_REFUSED]++;
+    if (reaches_past(call, RIDGE_DESCRIPTORS))
+        counts[UNMAP_17_BEFORE_RANGE]++;
+}
+
+/* Of REGISTER, and REGISTER AND IGNORE EXISTING KEY, whose flags count. */
+static void count_register(const struct occasion *call, bool ignores,
+                           uint64_t *counts)
+{
+    uint8_t flags = call->data_out[20];
+    uint64_t key = number(call->data_out, 8);
+
+    if (call->answer == RIDGE_LIST_FIELD) {
+        count_set(set_of_3((flags & 8) != 0, (flags & 4) != 0,
+                           (flags & 1) != 0),
+                  counts + (ignores ? IGNORE_FLAGS : REGISTER_FLAGS));
+        if (!ignores && key != key_of(&call->unit->rights, call->nexus))
+            counts[FLAGS_BEFORE_KEY]++;
+    }
+    if (call->answer != RIDGE_GOOD)
+        return;
+    if ((flags & 0x02) != 0)
+        counts[FLAGS_BIT_1]++;
+    if ((flags & 0xF0) != 0)
+        counts[FLAGS_BITS_7_TO_4]++;
+    if (!is_type(call->cdb[2]))
+        counts[ignores ? TYPE_OF_REGISTER_AND_IGNORE : TYPE_OF_REGISTER]++;
+}
+
+/* Of the other actions, whose flags do not. */
+static void count_flags_ignored(const struct occasion *call, uint8_t action,
+                                uint64_t *counts)
+{
+    bool flags = has_flags(call);
+
+    if (call->answer == RIDGE_LIST_FIELD)
+        counts[flags ? ZERO_KEY_WITH_FLAGS : ZERO_KEY]++;
+    if (call->answer == RIDGE_GOOD && flags)
+        counts[action == 1   ? FLAGS_OF_RESERVE
+               : action == 2 ? FLAGS_OF_RELEASE
+               : action == 3 ? FLAGS_OF_CLEAR
+                             : FLAGS_OF_PREEMPT]++;
+    if (call->answer == RIDGE_GOOD && action == 3 && !is_type(call->cdb[2]))
+        counts[TYPE_OF_CLEAR]++;
+}
+
+/* The list of a RESERVE OUT tells only where it was looked at. */
+static void count_reserve_out(const struct occasion *call, uint64_t *counts)
+{
+    uint8_t action = call->cdb[1] & 0x1F;
+
+    if (call->answer != RIDGE_GOOD && call->answer != RIDGE_LIST_FIELD)
+        return;
+    if (action == 0 || action == 6)
+        count_register(call, action == 6, counts);
+    else
+        count_flags_ignored(call, action, counts);
+}
+
+/* ---- What the sense buffer held ---- */
+
+/* The place of an earlier answer 2 or 5, if it holds one: an answer with sense
+   must cover it, one without must leave it. */
+static void count_left(const struct occasion *call, uint64_t *counts)
+{
+    const uint8_t *sense = call->sense;
+    size_t answer = (size_t)(call->answer < 9 ? call->answer
+                                              : call->answer - 1);
+
+    if (call->sense_bytes < RIDGE_SENSE_BYTES || sense[0] != 0x70 ||
+        (sense[15] & 0x88) != 0x88)
+        return;
+    if (sense[12] == 0x24)
+        counts[LEFT_BY_CDB + answer]++;
+    if (sense[12] == 0x26)
+        counts[LEFT_BY_LIST + answer]++;
+}
+
+/* Of an answer 11 nothing else tells: the state may be invalid. With any other
+   but 1 the CDB has as many bytes as its code wants. */
 void occasions_count(const struct occasion *call, uint64_t counts[OCCASIONS])
 {
     uint8_t action = call->cdb[1] & 0x1F;
 
+    count_left(call, counts);
+    if (call->answer == RIDGE_UNUSABLE || call->answer == RIDGE_CODE_NOT_LISTED)
+        return;
+    if (call->answer == RIDGE_CDB_FIELD)
+        count_cdb_fields(call, counts);
+    if (call->cdb[0] == 0x42)
+        count_unmap(call, counts);
+    if (call->cdb[0] == 0x5F)
+        count_reserve_out(call, counts);
     if (call->cdb[0] == 0x12)
         count_inquiry(call, counts);
     else if (call->cdb[0] == 0x93)

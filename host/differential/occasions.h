@@ -1,8 +1,9 @@
 /*
- * occasions.h - what calls of WRITE SAME, GET LBA STATUS and INQUIRY must have
- * come to in a long run: each rule of Q-1 and Q-2, each refusal by its own
- * cause alone, and the near misses on both sides. A rule that no call came near
- * was not tried.
+ * occasions.h - what calls must have come to in a long run: each rule of Q-1
+ * and Q-2 (WRITE SAME, GET LBA STATUS, INQUIRY), each refusal by its own cause
+ * alone, and the near misses on both sides; for Q-4 each field by itself and
+ * every set of fields that can be wrong at once, and what the sense buffer held
+ * before. A rule that no call came near was not tried.
  */
 
 #ifndef OCCASIONS_H
@@ -10,25 +11,27 @@
 
 #include "generate.h"
 
-enum { OCCASIONS = 126 };
+enum { OCCASIONS = 301 };
 
-/* A call and its answer; unit and owners are those from before it. The CDB has
-   as many bytes as its code wants. */
+/* A call and its answer; unit, owners and sense are those from before it. */
 struct occasion {
     const struct ridge_unit *unit;
     const uint64_t *owners;
     size_t slots;
     uint64_t nexus;
     const uint8_t *cdb;
+    size_t cdb_bytes;
     const uint8_t *data_out;
     size_t data_out_bytes;
     const uint8_t *data_in;
     size_t data_in_bytes;
+    const uint8_t *sense;
+    size_t sense_bytes;
     uint64_t answer;
     uint64_t returned;
 };
 
-/* Counts what the call came to: nothing for other commands. */
+/* Counts what the call came to. */
 void occasions_count(const struct occasion *call, uint64_t counts[OCCASIONS]);
 
 const char *occasion_name(size_t occasion);

@@ -1,8 +1,8 @@
 /*
  * second.c - a second implementation of the unit, written from the papers
  * alone and independent of the proved library. It follows 01, with requests
- * Q-1, Q-2 and Q-3 of 02. The tests run both on the same calls; the speed
- * figures take it as their baseline.
+ * Q-1 to Q-4 of 02. The tests run both on the same calls; the speed figures
+ * take it as their baseline.
  *
  * Plain C11: no heap, no globals but constant tables. The order of the tests in
  * each function is the papers' order, since the first that fails is the answer.
@@ -26,7 +26,14 @@ enum {
     EXCLUSIVE_ACCESS_ALL = 8
 };
 
-/* One call: what was lent, once the bounds are known to hold. */
+/* Where a field lies, in the CDB or in the parameter list. */
+struct field {
+    size_t first_byte;
+    uint8_t top_bit;
+};
+
+/* One call: what was lent, once the bounds are known to hold; and after an
+   answer 2 or 5 the field that was wrong. */
 struct call {
     struct ridge_unit *unit;
     uint64_t *owners;
@@ -39,6 +46,7 @@ struct call {
     uint8_t *data_in;
     size_t data_in_bytes;
     uint64_t *returned;
+    struct field wrong;
 };
 
 /* ---- Numbers in buffers, most significant byte first ---- */
@@ -63,6 +71,25 @@ static void store(uint8_t *bytes, size_t count, uint64_t value)
 static uint64_t smaller(uint64_t left, uint64_t right)
 {
     return left < right ? left : right;
+}
+
+/* ---- Wrong fields ---- */
+
+/* Every answer 2 and 5 begins with one of these, which names the field where it
+   is tested. The first that is wrong ends the call, so whoever tests several
+   goes by lowest byte, then by highest bit. */
+static uint64_t wrong_in_cdb(struct call *call, size_t first_byte,
+                             uint8_t top_bit)
+{
+    call->wrong = (struct field){first_byte, top_bit};
+    return RIDGE_CDB_FIELD;
+}
+
+static uint64_t wrong_in_list(struct call *call, size_t first_byte,
+                              uint8_t top_bit)
+{
+    call->wrong = (struct field){first_byte, top_bit};
+    return RIDGE_LIST_FIELD;
 }
 
 /* ---- Validity of a state ---- */
@@ -240,15 +267,20 @@ static bool in_range(uint64_t owner, struct range range)
 
 /*
  * Reads the range of a READ or WRITE: address bytes 2-5 and count 7-8 in ten
- * byte CDBs, 2-9 and 10-13 in those of sixteen. False for a CDB field that 01
- * refuses.
+ * byte CDBs, 2-9 and 10-13 in those of sixteen. GOOD unless 01 refuses a field.
  */
-static bool transfer_range(const uint8_t *cdb, bool sixteen,
-                           struct range *range)
+static uint64_t transfer_range(struct call *call, bool sixteen,
+                               struct range *range)
 {
+    const uint8_t *cdb = call->cdb;
+
     range->address = sixteen ? load(cdb + 2, 8) : load(cdb + 2, 4);
     range->count = sixteen ? load(cdb + 10, 4) : load(cdb + 7, 2);
-    return (cdb[1] & 0xE0) == 0 && range->count <= RIDGE_TRANSFER_BLOCKS;
+    if ((cdb[1] & 0xE0) != 0)
+        return wrong_in_cdb(call, 1, 7);
+    if (range->count > RIDGE_TRANSFER_BLOCKS)
+        return wrong_in_cdb(call, sixteen ? 10 : 7, 7);
+    return RIDGE_GOOD;
 }
 
 /* One pass over the owners: where each block of the range lies. */
@@ -278,7 +310,7 @@ static uint64_t read_blocks(struct call *call, bool sixteen)
     uint8_t slot_of[RIDGE_TRANSFER_BLOCKS];
     size_t bytes;
 
-    if (!transfer_range(call->cdb, sixteen, &range))
+    if (transfer_range(call, sixteen, &range) != RIDGE_GOOD)
         return RIDGE_CDB_FIELD;
     if (read_conflicts(call))
         return RIDGE_CONFLICT;
@@ -362,7 +394,7 @@ static uint64_t write_blocks(struct call *call, bool sixteen)
     struct range range;
     struct source source = {call->data_out, RIDGE_BLOCK_BYTES};
 
-    if (!transfer_range(call->cdb, sixteen, &range))
+    if (transfer_range(call, sixteen, &range) != RIDGE_GOOD)
         return RIDGE_CDB_FIELD;
     if (write_conflicts(call))
         return RIDGE_CONFLICT;
@@ -417,7 +449,7 @@ static uint64_t unmap(struct call *call)
     size_t considered;
 
     if ((call->cdb[1] & 0x01) != 0)
-        return RIDGE_CDB_FIELD;
+        return wrong_in_cdb(call, 1, 0);
     if (write_conflicts(call))
         return RIDGE_CONFLICT;
     if (length == 0)
@@ -428,7 +460,7 @@ static uint64_t unmap(struct call *call)
         return RIDGE_BUFFER_SHORT;
     considered = (size_t)smaller(load(call->data_out + 2, 2), length - 8) / 16;
     if (considered > RIDGE_DESCRIPTORS)
-        return RIDGE_LIST_FIELD;
+        return wrong_in_list(call, 2, 7);
     for (size_t index = 0; index < considered; index++) {
         if (!range_fits(call, descriptor(call, index)))
             return RIDGE_ADDRESS_RANGE;
@@ -449,14 +481,20 @@ static bool is_zero(const uint8_t block[RIDGE_BLOCK_BYTES])
     return true;
 }
 
-/* False for a CDB field that Q-1 refuses: unlike a WRITE's, the count may not
-   be 0. */
-static bool same_fields(uint8_t flags, struct range range)
+/* GOOD unless Q-1 refuses a field of the CDB: unlike a WRITE's, the count may
+   not be 0. */
+static uint64_t same_fields(struct call *call, struct range range)
 {
     enum { WRPROTECT = 0xE0, ANCHOR = 0x10 };
+    uint8_t flags = call->cdb[1];
 
-    return (flags & WRPROTECT) == 0 && (flags & ANCHOR) == 0 &&
-           range.count != 0 && range.count <= RIDGE_TRANSFER_BLOCKS;
+    if ((flags & WRPROTECT) != 0)
+        return wrong_in_cdb(call, 1, 7);
+    if ((flags & ANCHOR) != 0)
+        return wrong_in_cdb(call, 1, 4);
+    if (range.count == 0 || range.count > RIDGE_TRANSFER_BLOCKS)
+        return wrong_in_cdb(call, 10, 7);
+    return RIDGE_GOOD;
 }
 
 /* With NDOB the block is zeros and data-out is not looked at. */
@@ -468,7 +506,7 @@ static uint64_t write_same(struct call *call)
     bool without_data = (call->cdb[1] & NDOB) != 0;
     struct source same = {without_data ? zeros : call->data_out, 0};
 
-    if (!same_fields(call->cdb[1], range))
+    if (same_fields(call, range) != RIDGE_GOOD)
         return RIDGE_CDB_FIELD;
     if (write_conflicts(call))
         return RIDGE_CONFLICT;
@@ -645,12 +683,12 @@ static uint64_t inquiry(struct call *call)
 
     if ((call->cdb[1] & EVPD) == 0) {
         if (code != 0)
-            return RIDGE_CDB_FIELD;
+            return wrong_in_cdb(call, 2, 7);
         return give(call, standard_data, sizeof standard_data, allocation);
     }
     bytes = put_page(code, page);
     if (bytes == 0)
-        return RIDGE_CDB_FIELD;
+        return wrong_in_cdb(call, 2, 7);
     return give(call, page, bytes, allocation);
 }
 
@@ -741,7 +779,7 @@ static uint64_t service_action_in(struct call *call)
     case 0x12:
         return get_lba_status(call);
     default:
-        return RIDGE_CDB_FIELD;
+        return wrong_in_cdb(call, 1, 4);
     }
 }
 
@@ -795,7 +833,7 @@ static uint64_t reserve_in(struct call *call)
     case 1:
         return give(call, data, reservation_list(rights, data), allocation);
     default:
-        return RIDGE_CDB_FIELD;
+        return wrong_in_cdb(call, 1, 4);
     }
 }
 
@@ -960,7 +998,7 @@ static uint64_t take_over(struct call *call, const struct order *order)
     struct ridge_rights *rights = &call->unit->rights;
 
     if (!is_for_all(rights->type))
-        return RIDGE_LIST_FIELD;
+        return wrong_in_list(call, 8, 7);
     remove_others(rights, order->place);
     make_reservation(call, order->type);
     raise_generation(rights);
@@ -1018,37 +1056,60 @@ static uint64_t act(struct call *call, const struct order *order,
     }
 }
 
-/* False for an action not served, or a scope or type not known to it. */
-static bool action_fields(const uint8_t *cdb)
+/* Scope and type are two fields of one byte. */
+static uint64_t scope_and_type(struct call *call)
 {
-    switch (cdb[1] & 0x1F) {
+    if ((call->cdb[2] & 0xF0) != 0)
+        return wrong_in_cdb(call, 2, 7);
+    if (!is_type(call->cdb[2]))
+        return wrong_in_cdb(call, 2, 3);
+    return RIDGE_GOOD;
+}
+
+/* GOOD unless the action is not served, or its scope or type not known. */
+static uint64_t action_fields(struct call *call)
+{
+    switch (call->cdb[1] & 0x1F) {
     case REGISTER:
     case CLEAR:
     case REGISTER_AND_IGNORE:
-        return true;
+        return RIDGE_GOOD;
     case RESERVE:
     case RELEASE:
     case PREEMPT:
-        return is_type(cdb[2]);
+        return scope_and_type(call);
     default:
-        return false;
+        return wrong_in_cdb(call, 1, 4);
     }
+}
+
+/* What the two REGISTERs refuse: each flag is a field of one bit. */
+static uint64_t list_flags(struct call *call)
+{
+    enum { FLAGS_AT = 20, SPEC_I_PT = 3, ALL_TG_PT = 2, APTPL = 0 };
+    static const uint8_t refused[] = {SPEC_I_PT, ALL_TG_PT, APTPL};
+
+    for (size_t index = 0; index < sizeof refused; index++) {
+        if ((call->data_out[FLAGS_AT] >> refused[index] & 1) != 0)
+            return wrong_in_list(call, FLAGS_AT, refused[index]);
+    }
+    return RIDGE_GOOD;
 }
 
 static uint64_t reserve_out(struct call *call)
 {
-    enum { LIST_BYTES = 24, FLAGS_AT = 20, FLAGS_REFUSED = 0x0D };
+    enum { LIST_BYTES = 24 };
     enum action action = call->cdb[1] & 0x1F;
     struct order order;
 
-    if (!action_fields(call->cdb))
+    if (action_fields(call) != RIDGE_GOOD)
         return RIDGE_CDB_FIELD;
     if (load(call->cdb + 5, 4) != LIST_BYTES)
         return RIDGE_LIST_LENGTH;
     if (call->data_out_bytes < LIST_BYTES)
         return RIDGE_BUFFER_SHORT;
     if ((action == REGISTER || action == REGISTER_AND_IGNORE) &&
-        (call->data_out[FLAGS_AT] & FLAGS_REFUSED) != 0)
+        list_flags(call) != RIDGE_GOOD)
         return RIDGE_LIST_FIELD;
     order.type = call->cdb[2];
     order.key = load(call->data_out, 8);
@@ -1100,12 +1161,23 @@ static uint64_t dispatch(struct call *call, size_t cdb_bytes)
     if (cdb_bytes != command->cdb_bytes)
         return RIDGE_UNUSABLE;
     if ((call->cdb[cdb_bytes - 1] & 0x04) != 0)
-        return RIDGE_CDB_FIELD;
+        return wrong_in_cdb(call, cdb_bytes - 1, 2);
     return command->serve(call);
 }
 
+/* The bytes of sense that SPC names SENSE KEY SPECIFIC. */
+static void point_at(uint8_t sense[RIDGE_SENSE_BYTES], uint64_t answer,
+                     struct field wrong)
+{
+    enum { SKSV = 0x80, COMMAND_DATA = 0x40, BPV = 0x08 };
+    uint8_t whose = answer == RIDGE_CDB_FIELD ? COMMAND_DATA : 0;
+
+    sense[15] = SKSV | whose | BPV | wrong.top_bit;
+    store(sense + 16, 2, wrong.first_byte);
+}
+
 /* Fixed format sense data for the answers of status 02h, which are 1 to 8. */
-static void write_sense(uint8_t *sense, uint64_t answer)
+static void write_sense(uint8_t *sense, uint64_t answer, struct field wrong)
 {
     static const uint8_t codes[9][3] = {
         {0, 0, 0},          {0x05, 0x20, 0x00}, {0x05, 0x24, 0x00},
@@ -1121,6 +1193,8 @@ static void write_sense(uint8_t *sense, uint64_t answer)
     sense[7] = 0x0A;
     sense[12] = codes[answer][1];
     sense[13] = codes[answer][2];
+    if (answer == RIDGE_CDB_FIELD || answer == RIDGE_LIST_FIELD)
+        point_at(sense, answer, wrong);
 }
 
 uint64_t SECOND_NAME(fresh)(uint64_t capacity, struct ridge_unit *unit,
@@ -1143,7 +1217,7 @@ uint64_t SECOND_NAME(execute)(
 {
     struct call call = {unit,     owners,         slots,    medium,
                         nexus,    cdb,            data_out, data_out_bytes,
-                        data_in,  data_in_bytes,  returned};
+                        data_in,  data_in_bytes,  returned, {0, 0}};
     uint64_t answer;
 
     *returned = 0;
@@ -1154,6 +1228,6 @@ uint64_t SECOND_NAME(execute)(
         medium_bytes != slots * RIDGE_BLOCK_BYTES || !valid_state(&call))
         return RIDGE_UNUSABLE;
     answer = dispatch(&call, cdb_bytes);
-    write_sense(sense, answer);
+    write_sense(sense, answer, call.wrong);
     return answer;
 }

@@ -14,8 +14,9 @@
  * each time. Between these, each gets other calls of its own.
  *
  * Then each of the common calls gives the same answer, returned count, data-in
- * and sense in both, and leaves equal records; no reservation-out call changes
- * a block or a mapping, and no other shut-out call changes anything stored.
+ * and sense in both, to the last byte, so the place of a wrong field too, and
+ * leaves equal records; no reservation-out call changes a block or a mapping,
+ * and no other shut-out call changes anything stored.
  *
  * Exit status: 0 all held and enough was compared; 1 something did not hold,
  * which is printed; 2 too little compared (asked of long runs alone), or bad
@@ -34,7 +35,30 @@ enum {
     STEPS_DEFAULT = 100000,
     STEPS_LONG = 20000, /* from here on enough must be compared */
     STEPS_OF_PAIR = 60,
-    RESERVE_OUT_CODE = 0x5F
+    RESERVE_OUT_CODE = 0x5F,
+    PLACES = 14
+};
+
+/* Sense bytes 15 to 17 for each wrong field that a common call may have. The
+   number of an UNMAP's descriptors is none: a conflict comes before it. */
+static const struct {
+    const char *name;
+    uint8_t bytes[3];
+} places[PLACES] = {
+    {"NACA in byte 5", {0xCA, 0, 5}},
+    {"NACA in byte 9", {0xCA, 0, 9}},
+    {"NACA in byte 15", {0xCA, 0, 15}},
+    {"WRPROTECT or RDPROTECT", {0xCF, 0, 1}},
+    {"an action, or ANCHOR of WRITE SAME", {0xCC, 0, 1}},
+    {"ANCHOR of UNMAP", {0xC8, 0, 1}},
+    {"a page code, or a scope", {0xCF, 0, 2}},
+    {"a type", {0xCB, 0, 2}},
+    {"a count of 2 bytes", {0xCF, 0, 7}},
+    {"a count of 4 bytes", {0xCF, 0, 10}},
+    {"bit 3 of the flags", {0x8B, 0, 20}},
+    {"bit 2 of the flags", {0x8A, 0, 20}},
+    {"bit 0 of the flags", {0x88, 0, 20}},
+    {"the zero key", {0x8F, 0, 8}},
 };
 
 /* One of the two stores, with what it was lent and what it answered. */
@@ -63,6 +87,7 @@ struct figures {
     uint64_t take_overs;   /* PREEMPT with key 0 that was served */
     uint64_t shutting_out; /* of these, such as shut somebody out */
     uint64_t removed_calls;
+    uint64_t places[PLACES]; /* of common calls */
 };
 
 struct run {
@@ -163,6 +188,19 @@ static bool unit_kept(const struct side *side)
     return same_unit(&side->before.unit, &side->store.unit);
 }
 
+/* Of the sense that a common call was given, in both the same. */
+static void count_place(struct run *run)
+{
+    const struct side *side = &run->left;
+
+    if (side->answer != RIDGE_CDB_FIELD && side->answer != RIDGE_LIST_FIELD)
+        return;
+    for (size_t index = 0; index < PLACES; index++) {
+        if (memcmp(side->sense + 15, places[index].bytes, 3) == 0)
+            run->figures.places[index]++;
+    }
+}
+
 /* The call in hand goes to both stores; all that the sender sees is equal. */
 static void common_call(struct run *run)
 {
@@ -188,6 +226,7 @@ static void common_call(struct run *run)
     if (!is_reserve_out(&run->request) &&
         (!unit_kept(left) || !unit_kept(right)))
         fail(run, "a shut-out call has changed the record");
+    count_place(run);
 }
 
 /* Whether the reservation-out call in hand was a take-over, and served. */
@@ -399,6 +438,20 @@ static bool print_shut_out(const struct figures *figures, uint64_t steps)
     return enough;
 }
 
+static bool print_places(const struct figures *figures, uint64_t steps)
+{
+    bool enough = true;
+
+    for (size_t index = 0; index < PLACES; index++) {
+        char name[80];
+
+        snprintf(name, sizeof name, "common calls refused for %s",
+                 places[index].name);
+        enough &= print_count(name, figures->places[index], steps / 20000);
+    }
+    return enough;
+}
+
 static bool print_figures(const struct figures *figures)
 {
     uint64_t steps = figures->steps < STEPS_LONG ? 0 : figures->steps;
@@ -412,6 +465,7 @@ static bool print_figures(const struct figures *figures)
     enough &= print_count("of these shutting somebody out",
                           figures->shutting_out, steps / 2000);
     enough &= print_shut_out(figures, steps);
+    enough &= print_places(figures, steps);
     enough &= print_count("other calls between", figures->other_calls,
                           steps / 10);
     enough &= print_count("of these changed a map or block",

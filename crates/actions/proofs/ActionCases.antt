@@ -16,7 +16,7 @@ use Rattle.rights.specs.declared.Decision.{Decision}
 use Rattle.rights.specs.declared.Action.the-variants.{Register, Reserve, Release, Clear, Preempt, RegisterIgnoring}
 use Rattle.rights.specs.Places.{keyOf, known}
 use Rattle.rights.specs.Rights.{allHold, holds, held, ended}
-use Rattle.rights.specs.Actions.{registerFlags, flagRows, stranger, keyWrong, crowded, actionRows, decisionRows, registering, reserving, releasing, clearing, preempting, takingOver, acted, decided}
+use Rattle.rights.specs.Actions.{serviceKeyBits, registerFlags, flagRows, stranger, keyWrong, crowded, actionRows, decisionRows, registering, reserving, releasing, clearing, preempting, takingOver, acted, decided}
 use Rattle.rights.proofs.DecisionLaws.{flags-refused, flags-passed}
 use Rattle.actions.specs.Decided.{decidedBy}
 
@@ -109,7 +109,7 @@ module _ (r : Rights) (n : ℕ) (o : Parameters) where
     unfolding decided decisionRows flagRows keyWrong actionRows acted firstOf ifGoodBy refuses
     clear-done = simp s
 
-    pub preempt-zero : eqb (o .service) 0 ≡ true → decided Preempt r n o ≡ decidedBy (listField if not (allHold (r .kind)) ∷ []) (takingOver r n (o .kind)) r
+    pub preempt-zero : eqb (o .service) 0 ≡ true → decided Preempt r n o ≡ decidedBy (listField serviceKeyBits if not (allHold (r .kind)) ∷ []) (takingOver r n (o .kind)) r
     unfolding decided decidedBy decisionRows flagRows keyWrong actionRows acted firstOf
     preempt-zero e = simp (s, e)
 

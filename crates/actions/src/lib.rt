@@ -6,7 +6,7 @@ ghost use Rattle.answers.specs.Order.{_if_, first};
 ghost use Rattle.answers.specs.Answers.{listField, noPlace};
 ghost use Rattle.rights.specs.declared.Action.the-variants.{Register, Reserve, Release, Clear, Preempt, RegisterIgnoring};
 ghost use Rattle.rights.specs.Rights.{allHold};
-ghost use Rattle.rights.specs.Actions.{registerFlags, stranger, crowded, registering, preempting, takingOver, decided};
+ghost use Rattle.rights.specs.Actions.{serviceKeyBits, registerFlags, stranger, crowded, registering, preempting, takingOver, decided};
 ghost use Rattle.actions.specs.Decided.{decidedBy};
 use answers::Answer;
 use fields::numbers;
@@ -17,8 +17,10 @@ use reservations::places::Want;
 use reservations::standing;
 use rights::Action;
 use rights::Decision;
+use rights::FLAGS_BYTE;
 use rights::Parameters;
 use rights::Rights;
+use rights::SERVICE_KEY_BYTE;
 
 // What a reservation-out call decides.
 pub fn decide(action: Action, rights: Rights, nexus: u64, parameters: Parameters) -> Decision
@@ -39,13 +41,13 @@ fn flag_refusal(parameters: Parameters) -> Answer
     ensures { λ r. ⌜ r ≡ first (registerFlags parameters) ⌝ }
 {
     if numbers::bit(parameters.flags, 3) {
-        return answers::list_field();
+        return answers::list_field(FLAGS_BYTE, 3, 1);
     }
     if numbers::bit(parameters.flags, 2) {
-        return answers::list_field();
+        return answers::list_field(FLAGS_BYTE, 2, 1);
     }
     if numbers::bit(parameters.flags, 0) {
-        return answers::list_field();
+        return answers::list_field(FLAGS_BYTE, 0, 1);
     }
     Answer::Good
 }
@@ -232,10 +234,10 @@ fn preempting(rights: Rights, nexus: u64, kind: u32, key: u64) -> Rights
 
 // What PREEMPT with the key 0 decides: where all who are registered hold, the sender takes over from them.
 fn take_over(rights: Rights, nexus: u64, kind: u32) -> Decision
-    ensures { λ r. ⌜ r ≡ decidedBy (listField if not (allHold (rights .kind)) ∷ []) (takingOver rights nexus kind) rights ⌝ }
+    ensures { λ r. ⌜ r ≡ decidedBy (listField serviceKeyBits if not (allHold (rights .kind)) ∷ []) (takingOver rights nexus kind) rights ⌝ }
 {
     if !kinds::all_hold(rights.kind) {
-        let answer = answers::list_field();
+        let answer = answers::list_field(SERVICE_KEY_BYTE, 7, 64);
         return Decision { answer, rights };
     }
     let old = rights.places;

@@ -7,15 +7,17 @@ use fields::numbers;
 use forms::Request;
 use rights::Action;
 use rights::Decision;
+use rights::FLAGS_BYTE;
 use rights::Parameters;
 use rights::Rights;
+use rights::SERVICE_KEY_BYTE;
 
 fn parameters_of(request: Request, list: &[u8]) -> Parameters
     ensures { λ r. ⌜ r ≡ parametersOf request (now (list .entry)) ⌝ }
 {
     let key = numbers::number(list, 0, 8);
-    let service = numbers::number(list, 8, 8);
-    let flags = numbers::byte(list, 20);
+    let service = numbers::number(list, SERVICE_KEY_BYTE as usize, 8);
+    let flags = numbers::byte(list, FLAGS_BYTE as usize);
     Parameters {
         kind: request.kind,
         key,

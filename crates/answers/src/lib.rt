@@ -3,19 +3,21 @@ ghost use mathlib.Core.Path.{_≡_};
 ghost use Prim.Native.Nat.{_≤_};
 ghost use lib.ListN.{length};
 ghost use Rattle.answers.specs.declared.Answer.the-variants.{Refused};
-ghost use Rattle.answers.specs.Answers.{plain, codes, codesOf, numberOf, statusOf, fixedFormat, senseAfter, senseBytes};
-ghost use Rattle.answers.specs.Answers.{notListed, invalidField, outOfRange, listLength, listField, noPlace, otherType, noRoom};
+ghost use Rattle.answers.specs.declared.Refusal.the-variants.{InvalidField, ListField};
+ghost use Rattle.answers.specs.Answers.{plain, codes, codesOf, numberOf, statusOf, pointerMark, pointerByte, fixedFormat, senseAfter, senseBytes};
+ghost use Rattle.answers.specs.Answers.{notListed, outOfRange, listLength, noPlace, otherType, noRoom};
 
 // How many bytes sense has.
 pub const SENSE_BYTES: usize = 18;
 
-// The refusals that come with sense: each has one row in the table of answers.
+// The refusals that come with sense: each has one row in the table of answers. Two name the wrong field, of the CDB or of the parameter list, by
+// its first byte, its highest bit and how many bits it has. Sense has no room for the last; it is there so that one field is named and no other.
 pub enum Refusal {
     NotListed,
-    InvalidField,
+    InvalidField(u8, u8, u8),
     OutOfRange,
     ListLength,
-    ListField,
+    ListField(u8, u8, u8),
     NoPlace,
     OtherType,
     NoRoom,
@@ -29,13 +31,6 @@ pub struct Codes {
     pub ascq: u8,
 }
 
-// Where a wrong field lies: nowhere that is told, or by its first byte and highest bit in the CDB or in the parameter list.
-pub enum Pointer {
-    Nowhere,
-    Cdb(u16, u8),
-    List(u16, u8),
-}
-
 // The block address that a refusal tells.
 pub enum Information {
     Nothing,
@@ -45,7 +40,6 @@ pub enum Information {
 // What sense data says of a refusal.
 pub struct Sense {
     pub refusal: Refusal,
-    pub pointer: Pointer,
     pub information: Information,
 }
 
@@ -63,13 +57,12 @@ pub enum Status {
     Nothing,
 }
 
-// A refusal that points at no field and tells no address.
+// A refusal that tells no address.
 fn refused(refusal: Refusal) -> Answer
     ensures { λ r. ⌜ r ≡ Refused (plain refusal) ⌝ }
 {
     Answer::Refused(Sense {
         refusal,
-        pointer: Pointer::Nowhere,
         information: Information::Nothing,
     })
 }
@@ -81,11 +74,11 @@ pub fn not_listed() -> Answer
     refused(Refusal::NotListed)
 }
 
-// 2: a field of the CDB.
-pub fn invalid_field() -> Answer
-    ensures { λ r. ⌜ r ≡ invalidField ⌝ }
+// 2: a field of the CDB, by its first byte, its highest bit and how many bits it has.
+pub fn invalid_field(byte: u8, bit: u8, bits: u8) -> Answer
+    ensures { λ r. ⌜ r ≡ Refused (plain (InvalidField byte bit bits)) ⌝ }
 {
-    refused(Refusal::InvalidField)
+    refused(Refusal::InvalidField(byte, bit, bits))
 }
 
 // 3: block address + count > capacity.
@@ -102,11 +95,11 @@ pub fn list_length() -> Answer
     refused(Refusal::ListLength)
 }
 
-// 5: a field of the parameter list.
-pub fn list_field() -> Answer
-    ensures { λ r. ⌜ r ≡ listField ⌝ }
+// 5: a field of the parameter list, in the same way.
+pub fn list_field(byte: u8, bit: u8, bits: u8) -> Answer
+    ensures { λ r. ⌜ r ≡ Refused (plain (ListField byte bit bits)) ⌝ }
 {
-    refused(Refusal::ListField)
+    refused(Refusal::ListField(byte, bit, bits))
 }
 
 // 6: new registration, all 8 places used.
@@ -168,10 +161,10 @@ pub fn codes_of(refusal: Refusal) -> Codes
 {
     match refusal {
         Refusal::NotListed => row(1, 0x05, 0x20, 0x00),
-        Refusal::InvalidField => row(2, 0x05, 0x24, 0x00),
+        Refusal::InvalidField(_, _, _) => row(2, 0x05, 0x24, 0x00),
         Refusal::OutOfRange => row(3, 0x05, 0x21, 0x00),
         Refusal::ListLength => row(4, 0x05, 0x1A, 0x00),
-        Refusal::ListField => row(5, 0x05, 0x26, 0x00),
+        Refusal::ListField(_, _, _) => row(5, 0x05, 0x26, 0x00),
         Refusal::NoPlace => row(6, 0x05, 0x55, 0x04),
         Refusal::OtherType => row(7, 0x05, 0x26, 0x04),
         Refusal::NoRoom => row(8, 0x07, 0x27, 0x07),
@@ -191,11 +184,45 @@ pub fn status_of(a: Answer) -> Status
     }
 }
 
+// Byte 15 of sense: whether it points, into the CDB or the list, and at which bit.
+fn pointer_mark(refusal: Refusal) -> u8
+    ensures { λ r. ⌜ r ≡ pointerMark refusal ⌝ }
+{
+    match refusal {
+        Refusal::NotListed => 0,
+        Refusal::InvalidField(_, bit, _) => 0xC8 + bit % 8,
+        Refusal::OutOfRange => 0,
+        Refusal::ListLength => 0,
+        Refusal::ListField(_, bit, _) => 0x88 + bit % 8,
+        Refusal::NoPlace => 0,
+        Refusal::OtherType => 0,
+        Refusal::NoRoom => 0,
+    }
+}
+
+// Bytes 16 and 17 of sense: the byte that it points at.
+fn pointer_byte(refusal: Refusal) -> u16
+    ensures { λ r. ⌜ r ≡ pointerByte refusal ⌝ }
+{
+    match refusal {
+        Refusal::NotListed => 0,
+        Refusal::InvalidField(byte, _, _) => byte as u16,
+        Refusal::OutOfRange => 0,
+        Refusal::ListLength => 0,
+        Refusal::ListField(byte, _, _) => byte as u16,
+        Refusal::NoPlace => 0,
+        Refusal::OtherType => 0,
+        Refusal::NoRoom => 0,
+    }
+}
+
 fn fixed_format(sense: Sense) -> [u8; SENSE_BYTES]
     ensures { λ r. ⌜ r ≡ fixedFormat sense ⌝ }
 {
     let refusal = sense.refusal;
     let codes = codes_of(refusal);
+    let mark = pointer_mark(refusal);
+    let byte = pointer_byte(refusal);
     [
         0x70,
         0,
@@ -212,9 +239,9 @@ fn fixed_format(sense: Sense) -> [u8; SENSE_BYTES]
         codes.asc,
         codes.ascq,
         0,
-        0,
-        0,
-        0,
+        mark,
+        (byte / 256 % 256) as u8,
+        (byte % 256) as u8,
     ]
 }
 

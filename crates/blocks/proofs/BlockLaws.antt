@@ -17,7 +17,7 @@ use Rattle.answers.proofs.OrderLaws.{row-pass, row-stop, row-end}
 use Rattle.pool.specs.Pool.{Pool, readBlocks, writeBlocks, pool, roomFor}
 use Rattle.map.specs.Write.{Written, written, tryWrite}
 use Rattle.pool.proofs.Reading.{length-readBlocks}
-use Rattle.descriptors.specs.Descriptors.{considered, someFails, unmapAll}
+use Rattle.descriptors.specs.Descriptors.{dataLengthBits, considered, someFails, unmapAll}
 use Rattle.store.specs.Move.{pastEnd, readRows, writeRows, unmapRows}
 use Rattle.reply.specs.Reply.{leaving}
 use Rattle.blocks.specs.Moved.{reads, writes, unmaps}
@@ -118,14 +118,14 @@ module _ (capacity n : ℕ) (out owners : List ℕ) where
     unmap-short k = settles-refused _ Short _ owners (row-pass listLength _ _ h ∙ row-stop Short _ _ (lt-ltb (length out) n k)) tt
 
     module _ (k : n ≤ length out) (m : ℕ) (em : m ≡ considered n out) where
-      pub unmap-many : (a : Answer) → a ≡ listField → 16 < m → leaving a owners ≡ unmaps capacity owners n out
+      pub unmap-many : (a : Answer) → a ≡ listField dataLengthBits → 16 < m → leaving a owners ≡ unmaps capacity owners n out
       unfolding unmapRows refuses
       unmap-many a e l =
           rw e
-          (settles-refused _ listField _ owners
+          (settles-refused _ (listField dataLengthBits) _ owners
           (row-pass listLength _ _ h
           ∙ row-pass Short _ _ (le-ltb (length out) n k)
-          ∙ row-stop listField _ _ (ap (ltb 16) (sym em) ∙ lt-ltb 16 m l))
+          ∙ row-stop (listField dataLengthBits) _ _ (ap (ltb 16) (sym em) ∙ lt-ltb 16 m l))
           tt)
 
       module _ (l : m ≤ 16) where
@@ -136,7 +136,7 @@ module _ (capacity n : ℕ) (out owners : List ℕ) where
             (settles-refused _ outOfRange _ owners
             (row-pass listLength _ _ h
             ∙ row-pass Short _ _ (le-ltb (length out) n k)
-            ∙ row-pass listField _ _ (ap (ltb 16) (sym em) ∙ le-ltb 16 m l)
+            ∙ row-pass (listField dataLengthBits) _ _ (ap (ltb 16) (sym em) ∙ le-ltb 16 m l)
             ∙ row-stop outOfRange _ _ (ap (someFails capacity out 8) (sym em) ∙ t))
             tt)
 
@@ -147,7 +147,7 @@ module _ (capacity n : ℕ) (out owners : List ℕ) where
             settles-done _ _ owners after
             (row-pass listLength _ _ h
             ∙ row-pass Short _ _ (le-ltb (length out) n k)
-            ∙ row-pass listField _ _ (ap (ltb 16) (sym em) ∙ le-ltb 16 m l)
+            ∙ row-pass (listField dataLengthBits) _ _ (ap (ltb 16) (sym em) ∙ le-ltb 16 m l)
             ∙ row-pass outOfRange _ _ (ap (someFails capacity out 8) (sym em) ∙ t)
             ∙ row-end)
             (e ∙ ap (unmapAll owners out 8) em)

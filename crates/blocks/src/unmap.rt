@@ -7,6 +7,7 @@ ghost use Rattle.pool.specs.Bounds.{mostBlocks};
 ghost use Rattle.reply.specs.Reply.{leaving};
 ghost use Rattle.blocks.specs.Moved.{unmaps};
 use answers::Answer;
+use descriptors::DATA_LENGTH_BYTE;
 use descriptors::MOST_DESCRIPTORS;
 
 // Whether a list of this length breaks off within its header.
@@ -32,7 +33,7 @@ pub fn unmap(capacity: u64, owners: &mut [u64], length: u64, data_out: &[u8]) ->
     }
     let count = descriptors::considered(length, data_out);
     if MOST_DESCRIPTORS < count {
-        return answers::list_field();
+        return answers::list_field(DATA_LENGTH_BYTE, 7, 16);
     }
     if descriptors::some_fails(capacity, data_out, count) {
         return answers::out_of_range();

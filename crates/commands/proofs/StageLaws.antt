@@ -6,8 +6,9 @@ use mathlib.Core.List.{List, [], _∷_, _++_}
 use Prim.Native.Nat.{ℕ, zero, suc, _≤_}
 use native.Mathlib.Omega.{arith}
 use borrow.Author.Tests.{eq-eqb, ne-eqb}
-use lib.Dec.{T, eqb}
+use lib.Dec.{T, eqb, eqb→eq}
 use lib.ListN.{length}
+use Rattle.fields.proofs.Tests.{by-equal}
 use Rattle.answers.specs.declared.Answer.{Answer}
 use Rattle.answers.specs.declared.Answer.the-variants.{Good, Conflict, Unusable}
 use Rattle.answers.specs.Answers.{notListed}
@@ -19,7 +20,7 @@ use Rattle.forms.specs.declared.Entry.{Entry}
 use Rattle.forms.specs.declared.Entry.the-variants.{Listed, Unlisted}
 use Rattle.forms.specs.declared.Request.{Request}
 use Rattle.forms.specs.Forms.{entryOf, Asked, nothing, asks, askedBy, askedIn}
-use Rattle.forms.specs.Tests.{isUnlisted, codeRows, lengthRows, codeFieldRows, fieldRows}
+use Rattle.forms.specs.Tests.{isUnlisted, codeRows, lengthRows, checkRows, codeChecks, checksOf, fieldRows}
 use Rattle.forms.proofs.Table.{isNothing, longRule, long-rule}
 use Rattle.forms.proofs.Refusing.{code-refusing, length-refusing, field-refusing, unserved}
 use Rattle.decoder.specs.declared.Decoded.{Decoded}
@@ -31,17 +32,19 @@ use Rattle.store.specs.Step.{guardRows, stageRows}
 use Rattle.store.proofs.Parts.{guard-refusing}
 use Rattle.commands.specs.Served.{askedAt}
 
--- a listed code's CDBs have at least one byte
-long-some : (n : ℕ) → T (eqb n 6 || (eqb n 10 || eqb n 16)) → 1 ≤ n
-long-some zero t = absurd t
-long-some (suc n) t = omega arith
+-- a listed code's CDBs have 1 to 16 bytes
+long-some : (n : ℕ) → T (eqb n 6 || (eqb n 10 || eqb n 16)) → (1 ≤ n) × (n ≤ 16)
+long-some n t =
+    by-equal n 6 (λ b. T (b || (eqb n 10 || eqb n 16)) → (1 ≤ n) × (n ≤ 16)) (λ e _. (omega arith, omega arith))
+    (λ _. by-equal n 10 (λ b. T (b || eqb n 16) → (1 ≤ n) × (n ≤ 16)) (λ e _. (omega arith, omega arith))
+    (λ _ h. let e = eqb→eq n 16 h in (omega arith, omega arith))) t
 
-long-in : (e : Entry) (code : Code) → T (longRule e) → e ≡ Listed code → 1 ≤ code .long
+long-in : (e : Entry) (code : Code) → T (longRule e) → e ≡ Listed code → (1 ≤ code .long) × (code .long ≤ 16)
 unfolding longRule
 long-in e code t h = long-some (code .long) (subst (λ (x : Entry). T (longRule x)) h t)
 
-pub long-least : (cdb : List ℕ) (code : Code) → entryOf cdb ≡ Listed code → 1 ≤ code .long
-long-least cdb code h = long-in (entryOf cdb) code (long-rule cdb) h
+pub long-within : (cdb : List ℕ) (code : Code) → entryOf cdb ≡ Listed code → (1 ≤ code .long) × (code .long ≤ 16)
+long-within cdb code h = long-in (entryOf cdb) code (long-rule cdb) h
 
 -- every row of the stages refuses
 pub stage-refusing : (e : Entry) (r : Rights) (n : ℕ) (cdb : List ℕ) → T (refusing (stageRows e r n cdb))
@@ -56,16 +59,16 @@ stage-refusing e r n cdb =
 module _ (code : Code) (r : Rights) (n : ℕ) (cdb : List ℕ) where
   by-length : (b : Bool) → not (eqb (length cdb) (code .long)) ≡ b
       → first (stageRows (Listed code) r n cdb)
-      ≡ first (Unusable if b ∷ (codeFieldRows code cdb ++ guardRows (askedBy (code .service) cdb) r n))
-  unfolding stageRows codeRows lengthRows fieldRows isUnlisted askedIn
+      ≡ first (Unusable if b ∷ (checkRows (codeChecks code) cdb ++ guardRows (askedBy (code .service) cdb) r n))
+  unfolding stageRows codeRows lengthRows fieldRows checksOf isUnlisted askedIn
   by-length b e = row-pass notListed _ _ refl ∙ rw e
 
   at-length : length cdb ≡ code .long
-      → first (stageRows (Listed code) r n cdb) ≡ next (first (codeFieldRows code cdb)) (first (guardRows (askedBy (code .service) cdb) r n))
-  unfolding fieldRows
+      → first (stageRows (Listed code) r n cdb) ≡ next (first (checkRows (codeChecks code) cdb)) (first (guardRows (askedBy (code .service) cdb) r n))
+  unfolding fieldRows checksOf
   at-length e =
       by-length false (rw (eq-eqb _ _ e)) ∙ row-pass Unusable _ _ refl
-      ∙ first-append (codeFieldRows code cdb) _ (field-refusing (Listed code) cdb)
+      ∙ first-append (checkRows (codeChecks code) cdb) _ (field-refusing (Listed code) cdb)
 
 -- ---- what the code answers on its way
 
@@ -81,7 +84,7 @@ module _ (r : Rights) (n : ℕ) (cdb : List ℕ) where
         rw h
         (decoded-wrong _ Unusable _ (by-length code r n cdb true (rw (ne-eqb _ _ k)) ∙ row-stop Unusable _ _ refl) tt)
 
-    module _ (k : length cdb ≡ code .long) (d : Decoded) (g : d ≡ decoded (first (codeFieldRows code cdb)) (askedBy (code .service) cdb)) where
+    module _ (k : length cdb ≡ code .long) (d : Decoded) (g : d ≡ decoded (first (checkRows (codeChecks code) cdb)) (askedBy (code .service) cdb)) where
       wrong-at : (x : Asked) (v a : Answer) → decoded v x ≡ Wrong a → Wrong a ≡ decoded (next v (first (guardRows x r n))) x
       unfolding guardRows isNothing
       wrong-at nothing v a w = sym w ∙ ap (λ (b : Answer). decoded b nothing) (sym (ap (next v) row-end ∙ next-end v))
@@ -94,7 +97,7 @@ module _ (r : Rights) (n : ℕ) (cdb : List ℕ) where
       unfolding askedAt askedIn
       asked-wrong a w =
           rw h
-          (wrong-at (askedBy (code .service) cdb) (first (codeFieldRows code cdb)) a (sym g ∙ w)
+          (wrong-at (askedBy (code .service) cdb) (first (checkRows (codeChecks code) cdb)) a (sym g ∙ w)
           ∙ ap (λ (b : Answer). decoded b (askedBy (code .service) cdb)) (sym (at-length code r n cdb k)))
 
       module _ (q : Request) (w : d ≡ Asks q) where

@@ -1,11 +1,12 @@
 -- The ways that the tests of a CDB can end: v is their answer.
 -- Assumes nothing.
 use mathlib.Core.Path.{_≡_, refl, sym, ap, _∙_}
-use mathlib.Core.Bool.{Bool, true, false, true≢false}
+use mathlib.Core.Bool.{Bool, true, false, _||_, true≢false}
 use mathlib.Core.List.{List}
 use Prim.Native.Nat.{ℕ, _-_}
 use lib.Dec.{T}
 use Rattle.fields.specs.Field.{byte, bit}
+use Rattle.fields.specs.Bits.{numberIn}
 use Rattle.answers.specs.declared.Answer.{Answer}
 use Rattle.answers.specs.declared.Answer.the-variants.{Good, Refused, Conflict, Unusable, Short}
 use Rattle.answers.specs.Answers.{invalidField}
@@ -13,14 +14,15 @@ use Rattle.answers.specs.Order.{first, refuses}
 use Rattle.answers.proofs.OrderLaws.{row-pass, row-stop, row-end}
 use Rattle.forms.specs.declared.Test.{Test}
 use Rattle.forms.specs.declared.Form.{Form}
+use Rattle.forms.specs.declared.Service.{Service}
 use Rattle.forms.specs.declared.Service.the-variants.{Served, Other}
 use Rattle.forms.specs.declared.Code.{Code}
 use Rattle.forms.specs.declared.Request.{Request}
-use Rattle.forms.specs.Forms.{number, requestBy, Asked, nothing, asks, askedBy}
-use Rattle.forms.specs.Tests.{wrong, testRows, serviceRows, codeFieldRows}
+use Rattle.forms.specs.Forms.{actionBits, number, requestBy, Asked, nothing, asks, askedBy}
+use Rattle.forms.specs.Tests.{wrongIn, checkRows, isSet, checkOf, testChecks, serviceChecks, controlCheck, codeChecks}
 use Rattle.decoder.specs.declared.Decoded.{Decoded}
 use Rattle.decoder.specs.declared.Decoded.the-variants.{Asks, Wrong}
-use Rattle.decoder.specs.Decoding.{decoded}
+use Rattle.decoder.specs.Decoding.{decoded, isOther}
 
 stops : (a : Answer) (asked : Asked) → T (refuses a) → Wrong a ≡ decoded a asked
 unfolding decoded refuses
@@ -92,54 +94,68 @@ wrong-refuses Short a (asks r) e h = tt
 -- ---- the row of a command: q is its request
 
 module _ (f : Form) (cdb : List ℕ) (q : Request) (e : q ≡ requestBy f cdb) where
-  size-is : q .size ≡ number (f .size) cdb
+  pub size-is : q .size ≡ number (f .size) cdb
   unfolding requestBy
   size-is = ap (λ (r : Request). r .size) e
 
-  at-size : (t : Test) (b : Bool) → wrong t (q .size) cdb ≡ b → wrong t (number (f .size) cdb) cdb ≡ b
-  at-size t b h = ap (λ (n : ℕ). wrong t n cdb) (sym size-is) ∙ h
+  -- the answer of a test that fails, and what the row decides
+  abbrev pub refusalOf : Test → Answer
+  refusalOf t = invalidField (checkOf t (f .size) .bits)
 
-  pub tested-first : wrong (f .first) (q .size) cdb ≡ true → Wrong invalidField ≡ decoded (first (testRows f cdb)) (asks (requestBy f cdb))
-  unfolding testRows refuses
-  tested-first h = decoded-wrong _ invalidField _ (row-stop invalidField _ _ (at-size (f .first) true h)) tt
+  abbrev pub rowDecides : Decoded
+  rowDecides = decoded (first (checkRows (testChecks f) cdb)) (asks (requestBy f cdb))
 
-  module _ (h : wrong (f .first) (q .size) cdb ≡ false) where
-    pub tested-second : wrong (f .second) (q .size) cdb ≡ true → Wrong invalidField ≡ decoded (first (testRows f cdb)) (asks (requestBy f cdb))
-    unfolding testRows refuses
-    tested-second k =
-        decoded-wrong _ invalidField _
-        (row-pass invalidField _ _ (at-size (f .first) false h) ∙ row-stop invalidField _ _ (at-size (f .second) true k)) tt
+  abbrev pub fails : Test → Bool
+  fails t = wrongIn (checkOf t (f .size)) cdb
 
-    module _ (k : wrong (f .second) (q .size) cdb ≡ false) where
-      pub tested-third : wrong (f .third) (q .size) cdb ≡ true → Wrong invalidField ≡ decoded (first (testRows f cdb)) (asks (requestBy f cdb))
-      unfolding testRows refuses
-      tested-third l =
-          decoded-wrong _ invalidField _
-          (row-pass invalidField _ _ (at-size (f .first) false h) ∙ row-pass invalidField _ _ (at-size (f .second) false k)
-          ∙ row-stop invalidField _ _ (at-size (f .third) true l)) tt
+  pub tested-first : fails (f .first) ≡ true → Wrong (refusalOf (f .first)) ≡ rowDecides
+  unfolding testChecks checkRows refuses
+  tested-first h = decoded-wrong _ _ _ (row-stop _ _ _ h) tt
 
-      pub tested-passes : wrong (f .third) (q .size) cdb ≡ false → Asks q ≡ decoded (first (testRows f cdb)) (asks (requestBy f cdb))
-      unfolding testRows
-      tested-passes l =
-          rw e
-          (decoded-asks _ (requestBy f cdb)
-          (row-pass invalidField _ _ (at-size (f .first) false h) ∙ row-pass invalidField _ _ (at-size (f .second) false k)
-          ∙ row-pass invalidField _ _ (at-size (f .third) false l) ∙ row-end))
+  module _ (h : fails (f .first) ≡ false) where
+    pub tested-second : fails (f .second) ≡ true → Wrong (refusalOf (f .second)) ≡ rowDecides
+    unfolding testChecks checkRows refuses
+    tested-second k = decoded-wrong _ _ _ (row-pass _ _ _ h ∙ row-stop _ _ _ k) tt
+
+    module _ (k : fails (f .second) ≡ false) where
+      pub tested-third : fails (f .third) ≡ true → Wrong (refusalOf (f .third)) ≡ rowDecides
+      unfolding testChecks checkRows refuses
+      tested-third l = decoded-wrong _ _ _ (row-pass _ _ _ h ∙ row-pass _ _ _ k ∙ row-stop _ _ _ l) tt
+
+      pub tested-passes : fails (f .third) ≡ false → Asks q ≡ rowDecides
+      unfolding testChecks checkRows
+      tested-passes l = rw e (decoded-asks _ (requestBy f cdb) (row-pass _ _ _ h ∙ row-pass _ _ _ k ∙ row-pass _ _ _ l ∙ row-end))
 
 -- ---- a listed code: the control byte, and its service action
 
+pub neither : (x y : Bool) → (x || y) ≡ false → x ≡ false
+neither true y e = absurd (true≢false e)
+neither false y e = refl
+
 module _ (code : Code) (cdb : List ℕ) where
-  pub request-control : bit 2 (byte (code .long - 1) cdb) ≡ true
-      → Wrong invalidField ≡ decoded (first (codeFieldRows code cdb)) (askedBy (code .service) cdb)
-  unfolding codeFieldRows refuses
-  request-control h = decoded-wrong _ invalidField _ (row-stop invalidField _ _ h) tt
+  abbrev pub codeDecides : Decoded
+  codeDecides = decoded (first (checkRows (codeChecks code) cdb)) (askedBy (code .service) cdb)
+
+  pub request-control : bit 2 (byte (code .long - 1) cdb) ≡ true → Wrong (invalidField (controlCheck (code .long) .bits)) ≡ codeDecides
+  unfolding codeChecks checkRows wrongIn isSet numberIn bit refuses
+  request-control h = decoded-wrong _ _ _ (row-stop _ _ _ h) tt
 
   module _ (h : bit 2 (byte (code .long - 1) cdb) ≡ false) where
-    pub request-served : (f : Form) (d : Decoded) → code .service ≡ Served f → d ≡ decoded (first (testRows f cdb)) (asks (requestBy f cdb))
-        → d ≡ decoded (first (codeFieldRows code cdb)) (askedBy (code .service) cdb)
-    unfolding codeFieldRows serviceRows askedBy
-    request-served f d s e = rw (s, e) (ap (λ (a : Answer). decoded a (asks (requestBy f cdb))) (sym (row-pass invalidField _ _ h)))
+    pub request-served : (f : Form) (d : Decoded) → code .service ≡ Served f → d ≡ decoded (first (checkRows (testChecks f) cdb)) (asks (requestBy f cdb))
+        → d ≡ codeDecides
+    unfolding codeChecks serviceChecks checkRows wrongIn isSet numberIn bit askedBy
+    request-served f d s e = rw (s, e) (ap (λ (a : Answer). decoded a (asks (requestBy f cdb))) (sym (row-pass _ _ _ h)))
 
-    pub request-other : code .service ≡ Other → Wrong invalidField ≡ decoded (first (codeFieldRows code cdb)) (askedBy (code .service) cdb)
-    unfolding codeFieldRows serviceRows askedBy refuses
-    request-other s = rw s (decoded-wrong _ invalidField _ (row-pass invalidField _ _ h ∙ row-stop invalidField _ _ refl) tt)
+    pub request-other : code .service ≡ Other → Wrong (invalidField actionBits) ≡ codeDecides
+    unfolding codeChecks serviceChecks checkRows wrongIn isSet numberIn bit askedBy refuses
+    request-other s = rw s (decoded-wrong _ _ _ (row-pass _ _ _ h ∙ row-stop _ _ _ refl) tt)
+
+    other-is : (v : Service) → isOther v ≡ true → v ≡ Other
+    unfolding isOther
+    other-is (Served f) e = absurd (true≢false (sym e))
+    other-is Other e = refl
+
+    -- one of the two is wrong, and it is not the control byte
+    pub request-action : (x : Bool) → (x || isOther (code .service)) ≡ true → x ≡ false → Wrong (invalidField actionBits) ≡ codeDecides
+    request-action true t f = absurd (true≢false f)
+    request-action false t f = request-other (other-is (code .service) t)

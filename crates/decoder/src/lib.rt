@@ -1,11 +1,13 @@
 // Decoding a CDB, once: what the table has for it, whether its fields are right, and the request that it makes.
 ghost use mathlib.Core.Path.{_≡_};
 ghost use Prim.Native.Nat.{_≤_};
+ghost use Rattle.fields.specs.Bits.{numberIn};
+ghost use Rattle.answers.specs.Answers.{invalidField};
 ghost use Rattle.answers.specs.Order.{first};
 ghost use Rattle.rights.specs.Rights.{isOneOf, isType};
-ghost use Rattle.forms.specs.Forms.{action, entryOf, fieldNumber, number, requestBy, asks, askedBy};
-ghost use Rattle.forms.specs.Tests.{pages, wrong, testRows, codeFieldRows};
-ghost use Rattle.decoder.specs.Decoding.{decoded};
+ghost use Rattle.forms.specs.Forms.{action, entryOf, bytesOf, spanBits, number, requestBy, asks, askedBy};
+ghost use Rattle.forms.specs.Tests.{pages, wrongIn, checkRows, checkOf, testChecks, codeChecks};
+ghost use Rattle.decoder.specs.Decoding.{decoded, isOther};
 use answers::Answer;
 use fields::numbers;
 use forms::Code;
@@ -37,7 +39,7 @@ pub fn entry_of(cdb: &[u8]) -> Entry
 }
 
 fn field_number(field: Field, cdb: &[u8]) -> u64
-    ensures { λ r. ⌜ r ≡ fieldNumber field (now (cdb .entry)) ⌝ }
+    ensures { λ r. ⌜ r ≡ numberIn (bytesOf field) (now (cdb .entry)) ⌝ }
 {
     match field {
         Field::Two(at) => numbers::number(cdb, at as usize, 2),
@@ -104,56 +106,111 @@ fn is_page(code: u8) -> bool
     }
 }
 
-// Whether a field is wrong, where `size` is the count, allocation length or list length.
-fn is_wrong(test: Test, size: u64, cdb: &[u8]) -> bool
-    ensures { λ r. ⌜ r ≡ wrong test size (now (cdb .entry)) ⌝ }
+// Whether the field of a test is wrong, where `size` is the number in `span`, the count, allocation length or list length.
+fn is_wrong(test: Test, span: Span, size: u64, cdb: &[u8]) -> bool
+    requires { ⌜ size ≡ number span (now cdb) ⌝ }
+    ensures { λ r. ⌜ r ≡ wrongIn (checkOf test span) (now (cdb .entry)) ⌝ }
 {
     match test {
         Test::Nothing => false,
         Test::Page => !(numbers::byte(cdb, 2) == 0),
         Test::VitalPage => !is_page(numbers::byte(cdb, 2)),
-        Test::Protection => 32 <= numbers::byte(cdb, 1),
+        Test::Protection => !(numbers::byte(cdb, 1) / 32 % 8 == 0),
         Test::Count => (MOST_TRANSFER as u64) < size,
         Test::Anchor => numbers::bit(numbers::byte(cdb, 1), 0),
         Test::SameAnchor => numbers::bit(numbers::byte(cdb, 1), 4),
         Test::SameCount => (size == 0) | ((MOST_TRANSFER as u64) < size),
-        Test::Scope => 16 <= numbers::byte(cdb, 2),
+        Test::Scope => !(numbers::byte(cdb, 2) / 16 % 16 == 0),
         Test::Kind => !is_type(numbers::byte(cdb, 2) % 16),
+    }
+}
+
+// The refusal of a number, which stands in whole bytes.
+fn number_refusal(field: Field) -> Answer
+    ensures { λ r. ⌜ r ≡ invalidField (bytesOf field) ⌝ }
+{
+    match field {
+        Field::Two(at) => answers::invalid_field(at, 7, 16),
+        Field::Four(at) => answers::invalid_field(at, 7, 32),
+        Field::Eight(at) => answers::invalid_field(at, 7, 64),
+    }
+}
+
+fn span_refusal(span: Span) -> Answer
+    ensures { λ r. ⌜ r ≡ invalidField (spanBits span) ⌝ }
+{
+    match span {
+        Span::Absent => answers::invalid_field(0, 7, 0),
+        Span::At(field) => number_refusal(field),
+    }
+}
+
+// The refusal of a test, which names its field: the first byte, the highest bit, how many bits.
+fn refusal(test: Test, span: Span) -> Answer
+    ensures { λ r. ⌜ r ≡ invalidField (checkOf test span .bits) ⌝ }
+{
+    match test {
+        Test::Nothing => answers::invalid_field(0, 7, 0),
+        Test::Page => answers::invalid_field(2, 7, 8),
+        Test::VitalPage => answers::invalid_field(2, 7, 8),
+        Test::Protection => answers::invalid_field(1, 7, 3),
+        Test::Count => span_refusal(span),
+        Test::Anchor => answers::invalid_field(1, 0, 1),
+        Test::SameAnchor => answers::invalid_field(1, 4, 1),
+        Test::SameCount => span_refusal(span),
+        Test::Scope => answers::invalid_field(2, 7, 4),
+        Test::Kind => answers::invalid_field(2, 3, 4),
     }
 }
 
 // The request of a row whose fields are right.
 fn tested(form: Form, cdb: &[u8]) -> Decoded
-    ensures { λ r. ⌜ r ≡ decoded (first (testRows form (now (cdb .entry)))) (asks (requestBy form (now (cdb .entry)))) ⌝ }
+    ensures { λ r. ⌜ r ≡ decoded (first (checkRows (testChecks form) (now (cdb .entry)))) (asks (requestBy form (now (cdb .entry)))) ⌝ }
 {
     let request = request_of(form, cdb);
+    let span = form.size;
     let first = form.first;
-    if is_wrong(first, request.size, cdb) {
-        return Decoded::Wrong(answers::invalid_field());
+    if is_wrong(first, span, request.size, cdb) {
+        return Decoded::Wrong(refusal(first, span));
     }
     let second = form.second;
-    if is_wrong(second, request.size, cdb) {
-        return Decoded::Wrong(answers::invalid_field());
+    if is_wrong(second, span, request.size, cdb) {
+        return Decoded::Wrong(refusal(second, span));
     }
     let third = form.third;
-    if is_wrong(third, request.size, cdb) {
-        return Decoded::Wrong(answers::invalid_field());
+    if is_wrong(third, span, request.size, cdb) {
+        return Decoded::Wrong(refusal(third, span));
     }
     Decoded::Asks(request)
 }
 
-// The request of a CDB as long as its code has it: the control byte, then the fields of its row.
-pub fn request(code: Code, cdb: &[u8]) -> Decoded
-    requires { ⌜ 1 ≤ code .long ⌝ }
-    ensures { λ r. ⌜ r ≡ decoded (first (codeFieldRows code (now (cdb .entry)))) (askedBy (code .service) (now (cdb .entry))) ⌝ }
+// Whether the service action is not listed.
+fn is_other(service: Service) -> bool
+    ensures { λ r. ⌜ r ≡ isOther service ⌝ }
 {
-    let control = numbers::byte(cdb, code.long - 1);
-    if numbers::bit(control, 2) {
-        return Decoded::Wrong(answers::invalid_field());
+    match service {
+        Service::Served(_) => false,
+        Service::Other => true,
     }
+}
+
+// The request of a CDB as long as its code has it: the control byte, then the fields of its row. The control byte and the service action are
+// asked for at once: a branch of its own for each slows what is served.
+pub fn request(code: Code, cdb: &[u8]) -> Decoded
+    requires { ⌜ (1 ≤ code .long) × (code .long ≤ 16) ⌝ }
+    ensures { λ r. ⌜ r ≡ decoded (first (checkRows (codeChecks code) (now (cdb .entry)))) (askedBy (code .service) (now (cdb .entry))) ⌝ }
+{
+    let last = code.long - 1;
+    let control = numbers::bit(numbers::byte(cdb, last), 2);
     let service = code.service;
+    if control | is_other(service) {
+        if control {
+            return Decoded::Wrong(answers::invalid_field(last as u8, 2, 1));
+        }
+        return Decoded::Wrong(answers::invalid_field(1, 4, 5));
+    }
     match service {
         Service::Served(form) => tested(form, cdb),
-        Service::Other => Decoded::Wrong(answers::invalid_field()),
+        Service::Other => Decoded::Wrong(answers::invalid_field(1, 4, 5)),
     }
 }

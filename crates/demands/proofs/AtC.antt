@@ -117,10 +117,10 @@ usable-ever s (e ∷ es) u = usable-ever (onward s e) es (onward-usable s e u)
 refusal-numbered : (r : Refusal) → T (not (isOneOf (codesOf r .number) (0 ∷ 10 ∷ 11 ∷ 12 ∷ [])))
 unfolding codesOf isOneOf
 refusal-numbered NotListed = tt
-refusal-numbered InvalidField = tt
+refusal-numbered (InvalidField at top n) = tt
 refusal-numbered OutOfRange = tt
 refusal-numbered ListLength = tt
-refusal-numbered ListField = tt
+refusal-numbered (ListField at top n) = tt
 refusal-numbered NoPlace = tt
 refusal-numbered OtherType = tt
 refusal-numbered NoRoom = tt

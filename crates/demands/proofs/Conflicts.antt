@@ -3,7 +3,7 @@
 use mathlib.Core.Path.{_≡_, sym, _∙_, subst}
 use mathlib.Core.Logic.{_↔_, _≢_}
 use mathlib.Core.Bool.{Bool, true, false, cond}
-use mathlib.Core.List.{List}
+use mathlib.Core.List.{List, [], _∷_}
 use Prim.Native.Nat.{ℕ}
 use lib.Dec.{T, T-not, eqb}
 use Rattle.fields.proofs.Tests.{test, T-true, T-false, false→T, agree}
@@ -20,13 +20,11 @@ use Rattle.forms.specs.declared.Tell.{Tell}
 use Rattle.forms.specs.declared.Move.{Move}
 use Rattle.forms.specs.declared.Move.the-variants.{Read, Write, WriteSame, Unmap, Status}
 use Rattle.forms.specs.declared.Command.the-variants.{Tells, Moves, Alters}
-use Rattle.forms.specs.declared.Service.{Service}
-use Rattle.forms.specs.declared.Service.the-variants.{Served, Other}
 use Rattle.forms.specs.declared.Entry.{Entry}
 use Rattle.forms.specs.declared.Entry.the-variants.{Listed, Unlisted}
 use Rattle.forms.specs.declared.Request.{Request}
 use Rattle.forms.specs.Forms.{entryOf, askedOf}
-use Rattle.forms.specs.Tests.{codeRows, lengthRows, testRows, serviceRows, codeFieldRows, fieldRows}
+use Rattle.forms.specs.Tests.{codeRows, lengthRows, Check, checkRows, checksOf, fieldRows}
 use Rattle.forms.proofs.Table.{isAlters, altersIn, alters-code}
 use Rattle.pool.specs.Pool.{Pool}
 use Rattle.store.specs.Store.{Store, Call, usable}
@@ -115,15 +113,14 @@ conflict-table m s c a u g =
 
 -- ---- a command that tells
 
-service-none : (v : Service) (cdb : List ℕ) → T (noTen (serviceRows v cdb))
-unfolding serviceRows testRows refusingBy notTen
-service-none (Served f) cdb = tt
-service-none Other cdb = tt
+checks-none : (ks : List Check) (cdb : List ℕ) → T (noTen (checkRows ks cdb))
+unfolding checkRows refusingBy notTen
+checks-none [] cdb = tt
+checks-none (k ∷ ks) cdb = checks-none ks cdb
 
 fields-none : (e : Entry) (cdb : List ℕ) → T (noTen (fieldRows e cdb))
-unfolding fieldRows codeFieldRows refusingBy notTen
-fields-none (Listed code) cdb = service-none (code .service) cdb
-fields-none Unlisted cdb = tt
+unfolding fieldRows
+fields-none e cdb = checks-none (checksOf e) cdb
 
 length-none : (e : Entry) (cdb : List ℕ) → T (noTen (lengthRows e cdb))
 unfolding lengthRows refusingBy notTen

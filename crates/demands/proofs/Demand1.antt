@@ -8,6 +8,7 @@ use native.Mathlib.Omega.{arith}
 use lib.Dec.{T}
 use lib.ListN.{length, drop}
 use Rattle.fields.specs.Bytes.{put}
+use Rattle.fields.specs.Field.{bytes}
 use Rattle.fields.proofs.BytesLaws.{length-put, drop-put}
 use Rattle.answers.specs.declared.Refusal.{Refusal}
 use Rattle.answers.specs.declared.Refusal.the-variants.{NotListed, InvalidField, OutOfRange, ListLength, ListField, NoPlace, OtherType, NoRoom}
@@ -33,10 +34,10 @@ numbers = 0 ∷ 1 ∷ 2 ∷ 3 ∷ 4 ∷ 5 ∷ 6 ∷ 7 ∷ 8 ∷ 10 ∷ 11 ∷ 12
 refusal-listed : (r : Refusal) → T (isOneOf (codesOf r .number) numbers)
 unfolding codesOf isOneOf
 refusal-listed NotListed = tt
-refusal-listed InvalidField = tt
+refusal-listed (InvalidField at top n) = tt
 refusal-listed OutOfRange = tt
 refusal-listed ListLength = tt
-refusal-listed ListField = tt
+refusal-listed (ListField at top n) = tt
 refusal-listed NoPlace = tt
 refusal-listed OtherType = tt
 refusal-listed NoRoom = tt
@@ -77,7 +78,7 @@ unfolding step stepBy seenOf
 sense-table s c = refl
 
 sense-past-by : (a : Answer) (l : List ℕ) → drop 18 (senseAfter a l) ≡ drop 18 l
-unfolding senseAfter fixedFormat
+unfolding senseAfter fixedFormat bytes
 sense-past-by Good l = refl
 sense-past-by (Refused n) l = drop-put l 0 _ 18 (omega arith)
 sense-past-by Conflict l = refl

@@ -5,14 +5,15 @@ use mathlib.Core.Path.{_≡_, refl, sym, ap, _∙_}
 use mathlib.Core.Logic.{_↔_, Iff·trans, _≢_}
 use mathlib.Core.Bool.{Bool, true, false, not, _||_, or-false, true≢false}
 use mathlib.Core.List.{List, [], _∷_}
-use Prim.Native.Nat.{ℕ, _≤_, _<_}
+use Prim.Native.Nat.{ℕ, _/_, _%_, _^_, _≤_, _<_}
 use native.Mathlib.Omega.{arith}
-use borrow.Author.Tests.{ne-eqb, eq-eqb}
-use lib.Dec.{T, eqb, leb, ltb, ltb→lt, lt→ltb}
+use borrow.Author.Tests.{ne-eqb, eq-eqb, leb-false}
+use lib.Dec.{T, eqb, ltb, ltb→lt, lt→ltb}
 use lib.ListN.{length}
 use Rattle.fields.specs.Field.{byte, bit}
+use Rattle.fields.specs.Bits.{numberIn}
 use Rattle.fields.proofs.Tests.{or-l, or-r, true→T, false→T}
-use Rattle.answers.specs.Answers.{notListed, invalidField}
+use Rattle.answers.specs.Answers.{notListed, numberOf}
 use Rattle.answers.specs.Order.{first, refuses}
 use Rattle.answers.proofs.OrderLaws.{row-stop, next-refuses}
 use Rattle.pool.specs.Bounds.{mostTransfer}
@@ -20,8 +21,8 @@ use Rattle.forms.specs.declared.Move.{Move}
 use Rattle.forms.specs.declared.Move.the-variants.{WriteSame, Unmap}
 use Rattle.forms.specs.declared.Entry.{Entry}
 use Rattle.forms.specs.declared.Entry.the-variants.{Unlisted}
-use Rattle.forms.specs.Forms.{action, lines, entryFor, entryOf, countIn}
-use Rattle.forms.specs.Tests.{isUnlisted, codeRows, wrong}
+use Rattle.forms.specs.Forms.{number, action, lines, entryFor, entryOf, countIn}
+use Rattle.forms.specs.Tests.{isUnlisted, codeRows, isSet, notZero, wrongIn, checkOf}
 use Rattle.forms.proofs.Table.{lists, lookup-skips}
 use Rattle.forms.proofs.Fields.{testsOf}
 use Rattle.store.specs.Store.{Store, Call}
@@ -31,36 +32,43 @@ use Rattle.store.proofs.StoreLaws.{step-answer}
 use Rattle.store.proofs.VitalLaws.{limits-told, provisioning-told}
 use Rattle.demands.specs.Contents.{Asks, isTransfer}
 use Rattle.demands.specs.Limits.{Reads, wsnz, compareAndWriteLength, transferLength, unmapCount, writeSameLength, lbpws10, ancSup, Fielded, Unprotected, AnchorRefused, Unserved}
-use Rattle.demands.proofs.Fielded.{heard-call, move-rows, refused-exactly}
-use Rattle.demands.proofs.Widths.{field-rows}
+use Rattle.demands.proofs.Fielded.{heard-call, size-is, move-rows, refused-exactly}
+use Rattle.demands.proofs.Widths.{protectionIn, field-rows}
 use Rattle.demands.proofs.PagesRead.{limits-read, provisioning-read}
 
 -- ---- counts
+
+-- a byte 1 with nothing in its bits 7-5
+unprotected : (c : Call) → Unprotected c → protectionIn (c .cdb) ≡ false
+unfolding protectionIn notZero numberIn
+unprotected c u =
+    let small = leb-false 32 (byte 1 (c .cdb)) u in
+    ap not (eq-eqb (byte 1 (c .cdb) / 2 ^ 5 % 2 ^ 3) 0 (omega arith))
 
 -- the one test that is left
 above : (b : Bool) (m n : ℕ) → b ≡ false → T (b || (ltb m n || false)) ↔ m < n
 above b m n e = rw (e, or-false (ltb m n)) (ltb→lt m n, lt→ltb m n)
 
 pub transfer-limit : (bs : List ℕ) → Reads step 0xB0 bs → (m : Move) → T (isTransfer m) → (s : Store) (c : Call) (a : Asks m c) → Fielded s c
-    → Unprotected c → step s c .seen .answer ≡ invalidField ↔ transferLength bs < countIn (a .request)
+    → Unprotected c → numberOf (step s c .seen .answer) ≡ 2 ↔ transferLength bs < countIn (a .request)
 unfolding transferLength
 transfer-limit bs r m t s c a f u =
     rw (limits-read bs r, limits-told .transfer)
-    (Iff·trans (refused-exactly s c a f _ _ _ (field-rows m t c a)) (above (leb 32 (byte 1 (c .cdb))) mostTransfer (countIn (a .request)) u))
+    (Iff·trans (refused-exactly s c a f _ _ _ _ _ _ (field-rows m t c a)) (above (protectionIn (c .cdb)) mostTransfer (countIn (a .request)) (unprotected c u)))
 
 module _ (bs : List ℕ) (r : Reads step 0xB0 bs) (s : Store) (c : Call) (a : Asks WriteSame c) (f : Fielded s c) (u : Unprotected c)
     (v : bit 4 (byte 1 (c .cdb)) ≡ false) where
-  same-refused : step s c .seen .answer ≡ invalidField ↔ T (eqb (countIn (a .request)) 0 || ltb mostTransfer (countIn (a .request)))
-  unfolding testsOf wrong
-  same-refused = rw (u, v) at (refused-exactly s c a f _ _ _ (move-rows WriteSame c a))
+  same-refused : numberOf (step s c .seen .answer) ≡ 2 ↔ T (eqb (countIn (a .request)) 0 || ltb mostTransfer (countIn (a .request)))
+  unfolding testsOf checkOf wrongIn protectionIn isSet numberIn number bit
+  same-refused = rw (unprotected c u, v, size-is a) at (refused-exactly s c a f _ _ _ _ _ _ (move-rows WriteSame c a))
 
-  pub same-limit : 1 ≤ countIn (a .request) → step s c .seen .answer ≡ invalidField ↔ writeSameLength bs < countIn (a .request)
+  pub same-limit : 1 ≤ countIn (a .request) → numberOf (step s c .seen .answer) ≡ 2 ↔ writeSameLength bs < countIn (a .request)
   unfolding writeSameLength
   same-limit h =
       rw (limits-read bs r, limits-told .same)
       (Iff·trans (rw (ne-eqb (countIn (a .request)) 0 (omega arith)) at same-refused) (ltb→lt mostTransfer _, lt→ltb mostTransfer _))
 
-  pub same-none-limit : countIn (a .request) ≡ 0 → step s c .seen .answer ≡ invalidField ↔ T (wsnz bs)
+  pub same-none-limit : countIn (a .request) ≡ 0 → numberOf (step s c .seen .answer) ≡ 2 ↔ T (wsnz bs)
   unfolding wsnz
   same-none-limit h = (
     λ _. true→T _ (ap wsnz (limits-read bs r) ∙ limits-told .not-zero),
@@ -75,11 +83,11 @@ no-count-limit bs r = ap unmapCount (limits-read bs r) ∙ limits-told .unmap
 -- ---- anchors
 
 pub anchor-refused : AnchorRefused step
-unfolding testsOf wrong
+unfolding testsOf checkOf wrongIn isSet numberIn bit protectionIn
 anchor-refused = record {
-  unmap = λ s c a f t. refused-exactly s c a f _ _ _ (move-rows Unmap c a) .1 (or-l (bit 0 (byte 1 (c .cdb))) _ t);
-  same = λ s c a f t. refused-exactly s c a f _ _ _ (move-rows WriteSame c a) .1
-      (or-r (leb 32 (byte 1 (c .cdb))) _ (or-l (bit 4 (byte 1 (c .cdb))) _ t));
+  unmap = λ s c a f t. refused-exactly s c a f _ _ _ _ _ _ (move-rows Unmap c a) .1 (or-l (bit 0 (byte 1 (c .cdb))) _ t);
+  same = λ s c a f t. refused-exactly s c a f _ _ _ _ _ _ (move-rows WriteSame c a) .1
+      (or-r (protectionIn (c .cdb)) _ (or-l (bit 4 (byte 1 (c .cdb))) _ t));
 }
 
 pub anchors-told : (bs : List ℕ) → Reads step 0xB2 bs → T (not (ancSup bs)) ↔ AnchorRefused step

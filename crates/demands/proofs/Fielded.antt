@@ -4,12 +4,13 @@ use mathlib.Core.Path.{_≡_, refl, sym, ap, _∙_, subst}
 use mathlib.Core.Logic.{_↔_, _≢_}
 use mathlib.Core.Bool.{Bool, true, false, not, _||_}
 use mathlib.Core.List.{List, [], _∷_}
-use Prim.Native.Nat.{ℕ, _≤_}
+use Prim.Native.Nat.{ℕ, _-_, _≤_}
 use native.Mathlib.Omega.{arith}
 use borrow.Author.Tests.{le-ltb, ne-eqb, eq-eqb}
 use lib.Dec.{T, eqb}
 use lib.ListN.{length}
 use Rattle.fields.specs.Field.{bit}
+use Rattle.fields.specs.Bits.{Bits, within, whole, numberIn}
 use Rattle.answers.specs.declared.Answer.{Answer}
 use Rattle.answers.specs.declared.Answer.the-variants.{Good, Unusable}
 use Rattle.answers.specs.Answers.{notListed, invalidField, codesOf, numberOf}
@@ -24,10 +25,11 @@ use Rattle.forms.specs.declared.Move.{Move}
 use Rattle.forms.specs.declared.Move.the-variants.{Read, Write, WriteSame, Unmap, Status}
 use Rattle.forms.specs.declared.Command.{Command}
 use Rattle.forms.specs.declared.Command.the-variants.{Tells, Moves, Alters}
+use Rattle.forms.specs.declared.Span.{Span}
 use Rattle.forms.specs.declared.Request.{Request}
-use Rattle.forms.specs.Forms.{entryOf, Asked, nothing, asks, askedOf, countIn}
-use Rattle.forms.specs.Tests.{isUnlisted, codeRows, lengthRows, wrong, fieldRows}
-use Rattle.forms.proofs.Fields.{Row as RowOf, testsOf, row-long, move-fields, asked-row}
+use Rattle.forms.specs.Forms.{entryOf, number, requestBy, Asked, nothing, asks, askedOf}
+use Rattle.forms.specs.Tests.{isUnlisted, codeRows, lengthRows, isSet, Check, wrongIn, checkRows, checkOf, fieldRows}
+use Rattle.forms.proofs.Fields.{Row as RowOf, testsOf, row-long, move-checks, asked-row}
 use Rattle.store.specs.Store.{Store, Call}
 use Rattle.store.specs.Move.{readRows, writeRows, sameRows, unmapRows, statusRows, moveRows}
 use Rattle.store.specs.Tell.{tellRows}
@@ -50,9 +52,9 @@ first-none : (rows : List Row) → T (noTwo rows) → T (notTwo (first rows))
 unfolding notTwo numberOf
 first-none rows t = first-obeys notTwo rows tt t
 
-none-two : (a : Answer) → T (notTwo a) → a ≢ invalidField
-unfolding notTwo numberOf codesOf
-none-two a t e = subst (λ (x : Answer). T (notTwo x)) e t
+none-two : (a : Answer) → T (notTwo a) → numberOf a ≢ 2
+unfolding notTwo
+none-two a t e = subst (λ (n : ℕ). T (not (eqb n 2))) e t
 
 guard-none : (x : Asked) (r : Rights) (n : ℕ) → T (noTwo (guardRows x r n))
 unfolding guardRows refusingBy notTwo numberOf
@@ -130,34 +132,60 @@ module _ {k : Command} {c : Call} (a : AsksFor k c) where
 
 -- ---- the fields
 
+-- the control byte's bit for NACA, in a CDB as long as its code has it
+abbrev pub nacaBits : Call → Bits
+nacaBits c = within (longOf (entryOf (c .cdb)) - 1) 2 1
+
+-- no byte, where there is no field to be wrong
+abbrev pub nowhere : Bits
+nowhere = whole 0 0
+
+-- a row for a test of a field
+abbrev pub checked : Check → Call → Row
+checked k c = invalidField (k .bits) if wrongIn k (c .cdb)
+
+-- the number that says how much, where the row of a command has it
+module _ {k : Command} {c : Call} (a : AsksFor k c) where
+  abbrev pub sizeSpan : Span
+  sizeSpan = asks-row a .form .size
+
+  pub size-is : number sizeSpan (c .cdb) ≡ a .request .size
+  unfolding requestBy
+  size-is = ap (λ (q : Request). q .size) (asks-row a .request)
+
 -- those of a command on the blocks
 pub move-rows : (m : Move) (c : Call) (a : Asks m c) → fieldRows (entryOf (c .cdb)) (c .cdb)
-    ≡ invalidField if bit 2 (control c) ∷ invalidField if wrong (testsOf m .0) (countIn (a .request)) (c .cdb)
-    ∷ invalidField if wrong (testsOf m .1) (countIn (a .request)) (c .cdb) ∷ invalidField if wrong (testsOf m .2) (countIn (a .request)) (c .cdb) ∷ []
-move-rows m c a = move-fields (c .cdb) (a .request) (asks-row a) m (a .command) ∙ rw (long-is a)
+    ≡ invalidField (nacaBits c) if bit 2 (control c) ∷ checked (checkOf (testsOf m .0) (sizeSpan a)) c
+    ∷ checked (checkOf (testsOf m .1) (sizeSpan a)) c ∷ checked (checkOf (testsOf m .2) (sizeSpan a)) c ∷ []
+unfolding fieldRows checkRows wrongIn isSet numberIn bit
+move-rows m c a = ap (λ (ks : List Check). checkRows ks (c .cdb)) (move-checks (c .cdb) (a .request) (asks-row a) m (a .command)) ∙ rw (long-is a)
 
-three : (x y z : Bool) (b : Answer) → T (notTwo b)
-    → next (first (invalidField if x ∷ invalidField if y ∷ invalidField if z ∷ [])) b ≡ invalidField ↔ T (x || (y || z))
-unfolding firstOf nextBy refuses
-three true y z b t = (λ _. tt, λ _. refl)
-three false true z b t = (λ _. tt, λ _. refl)
-three false false true b t = (λ _. tt, λ _. refl)
-three false false false b t = (λ e. absurd (none-two b t e), λ h. absurd h)
+-- where p, q and r are its fields but NACA, and x, y and z their tests
+module _ (p q r : Bits) (x y z : Bool) where
+  abbrev pub threeRows : List Row
+  threeRows = invalidField p if x ∷ invalidField q if y ∷ invalidField r if z ∷ []
 
--- where x, y and z are the tests of its fields but NACA
-module _ {k : Command} (s : Store) (c : Call) (a : AsksFor k c) (f : Fielded s c) (x y z : Bool)
-    (rows : fieldRows (entryOf (c .cdb)) (c .cdb)
-    ≡ invalidField if bit 2 (control c) ∷ invalidField if x ∷ invalidField if y ∷ invalidField if z ∷ []) where
-  answer-is : step s c .seen .answer ≡ next (first (invalidField if x ∷ invalidField if y ∷ invalidField if z ∷ [])) (later s c)
+three : (p q r : Bits) (x y z : Bool) (b : Answer) → T (notTwo b)
+    → numberOf (next (first (threeRows p q r x y z)) b) ≡ 2 ↔ T (x || (y || z))
+unfolding firstOf nextBy refuses numberOf codesOf
+three p q r true y z b t = (λ _. tt, λ _. refl)
+three p q r false true z b t = (λ _. tt, λ _. refl)
+three p q r false false true b t = (λ _. tt, λ _. refl)
+three p q r false false false b t = (λ e. absurd (none-two b t e), λ h. absurd h)
+
+module _ {k : Command} (s : Store) (c : Call) (a : AsksFor k c) (f : Fielded s c) (p q r : Bits) (x y z : Bool)
+    (rows : fieldRows (entryOf (c .cdb)) (c .cdb) ≡ invalidField (nacaBits c) if bit 2 (control c) ∷ threeRows p q r x y z) where
+  answer-is : step s c .seen .answer ≡ next (first (threeRows p q r x y z)) (later s c)
   answer-is =
       step-answer s c
       ∙ from-fields s c (heard-call s c (f .heard) (not-empty a (f .long))) (f .heard .store)
       (ap first (code-rows a) ∙ row-pass notListed _ _ refl ∙ row-end) (ap first (length-rows a (f .long)) ∙ row-pass Unusable _ _ refl ∙ row-end)
-      ∙ ap (λ (v : Answer). next v (later s c)) (ap first rows ∙ row-pass invalidField _ _ (f .naca))
+      ∙ ap (λ (v : Answer). next v (later s c)) (ap first rows ∙ row-pass (invalidField (nacaBits c)) _ _ (f .naca))
 
-  pub refused-exactly : step s c .seen .answer ≡ invalidField ↔ T (x || (y || z))
-  refused-exactly = subst (λ (v : Answer). v ≡ invalidField ↔ T (x || (y || z))) (sym answer-is) (three x y z (later s c) (later-none s c))
+  pub refused-exactly : numberOf (step s c .seen .answer) ≡ 2 ↔ T (x || (y || z))
+  refused-exactly = subst (λ (v : Answer). numberOf v ≡ 2 ↔ T (x || (y || z))) (sym answer-is) (three p q r x y z (later s c) (later-none s c))
 
   pub fields-pass : x ≡ false → y ≡ false → z ≡ false → step s c .seen .answer ≡ later s c
-  fields-pass p q r =
-      answer-is ∙ next-after _ (later s c) (row-pass invalidField _ _ p ∙ row-pass invalidField _ _ q ∙ row-pass invalidField _ _ r ∙ row-end)
+  fields-pass d e g =
+      answer-is
+      ∙ next-after _ (later s c) (row-pass (invalidField p) _ _ d ∙ row-pass (invalidField q) _ _ e ∙ row-pass (invalidField r) _ _ g ∙ row-end)

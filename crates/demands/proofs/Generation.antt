@@ -8,6 +8,7 @@ use native.Mathlib.Omega.{arith}
 use borrow.Author.Tests.{ne-eqb, leb-true}
 use lib.Dec.{T, eqb, eqb→eq, leb}
 use Rattle.fields.specs.Field.{field, byte}
+use Rattle.fields.specs.Bits.{numberIn}
 use Rattle.fields.proofs.Tests.{and-l, test}
 use Rattle.answers.specs.declared.Answer.the-variants.{Good}
 use Rattle.rights.specs.declared.Rights.{Rights}
@@ -86,7 +87,7 @@ module _ (r : Rights) (n : ℕ) (cdb list : List ℕ) where
   other-said a = simp (other-entry, not-beyond)
 
   said : (a : ℕ) → Said a
-  unfolding entryFor lookup lines takes askedIn askedBy requestBy raisesIn raisesAs raises parametersOf isOneOf actionRaises
+  unfolding entryFor lookup lines takes askedIn askedBy requestBy raisesIn raisesAs raises parametersOf numberIn isOneOf actionRaises
   said zero = save (registered n (r .places)) (eqb (field 8 8 list) 0)
   said (suc zero) = refl
   said (suc (suc zero)) = refl

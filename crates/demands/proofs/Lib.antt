@@ -34,4 +34,9 @@ pub mod FieldLimits
 pub mod BlockLimits
 pub mod Limits
 pub mod WrongLimits
+pub mod Answering
+pub mod Named
+pub mod Places
+pub mod Pointed
+pub mod WrongPointers
 pub mod Proved

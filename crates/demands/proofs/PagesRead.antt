@@ -12,9 +12,11 @@ use lib.Dec.{T, leb}
 use lib.ListN.{length, take, length-take}
 use lib.Seq.{take-all, getD-take}
 use Rattle.fields.specs.Field.{field, byte, bit}
+use Rattle.fields.specs.Bits.{numberIn}
+use Rattle.fields.proofs.BitsLaws.{one-byte}
 use Rattle.fields.proofs.Tests.{not-not, not-not-intro, T-false, false→T}
 use Rattle.answers.specs.declared.Answer.the-variants.{Good, Conflict, Short}
-use Rattle.answers.specs.Answers.{invalidField}
+use Rattle.answers.specs.Answers.{invalidField, numberOf}
 use Rattle.answers.specs.Order.{_if_, first, refuses}
 use Rattle.answers.proofs.OrderLaws.{row-pass, row-end, row-fails, rows-after, next-after}
 use Rattle.rights.specs.Rights.{isOneOf}
@@ -23,8 +25,8 @@ use Rattle.forms.specs.declared.Command.the-variants.{Tells}
 use Rattle.forms.specs.declared.Test.the-variants.{Nothing, VitalPage}
 use Rattle.forms.specs.declared.Span.the-variants.{Absent}
 use Rattle.forms.specs.declared.Entry.{Entry}
-use Rattle.forms.specs.Forms.{form, two, fieldNumber, number, action, entryOf, requestBy, askedBy, askedIn, askedOf}
-use Rattle.forms.specs.Tests.{pages, wrong, testRows, serviceRows, codeFieldRows, fieldRows}
+use Rattle.forms.specs.Forms.{form, two, pageBits, bytesOf, spanBits, number, action, entryOf, requestBy, askedBy, askedIn, askedOf}
+use Rattle.forms.specs.Tests.{pages, isSet, wrongIn, checkRows, checkOf, testChecks, serviceChecks, codeChecks, checksOf, fieldRows}
 use Rattle.forms.proofs.Table.{inquiryEntry, inquiry-entry}
 use Rattle.store.specs.Store.{Store, Call}
 use Rattle.store.specs.Tell.{told, tellRows}
@@ -37,21 +39,22 @@ use Rattle.store.proofs.VitalLaws.{page-named, page-whole, page-fits, pages-tol
 use Rattle.demands.specs.Contents.{AsksFor, IsGood, longOf, control}
 use Rattle.demands.specs.Limits.{AsksPage, returnedBy, Reads, pageCodes, Fielded}
 use Rattle.demands.proofs.Telling.{returned-told}
-use Rattle.demands.proofs.Fielded.{refused-exactly, fields-pass}
+use Rattle.demands.proofs.Fielded.{nacaBits, threeRows, nowhere, refused-exactly, fields-pass}
 
 -- ---- an INQUIRY for a page, by the table
 
 -- the action is the lower bits of byte 1, and has the same bit 0
-odd-action : (n : ℕ) → bit 0 (n % 32) ≡ bit 0 n
-unfolding bit
-odd-action n =
-    let e : n % 32 / 2 ^ 0 % 2 ≡ n / 2 ^ 0 % 2 = omega arith in
+odd-action : (cdb : List ℕ) → bit 0 (action cdb) ≡ bit 0 (byte 1 cdb)
+unfolding action numberIn bit
+odd-action cdb =
+    let n = byte 1 cdb in
+    let e : n / 2 ^ 0 % 2 ^ 5 / 2 ^ 0 % 2 ≡ n / 2 ^ 0 % 2 = omega arith in
     rw e
 
 module _ (code : ℕ) (c : Call) (a : AsksPage code c) where
   page-entry : entryOf (c .cdb) ≡ inquiryEntry VitalData VitalPage
-  unfolding entryOf action
-  page-entry = rw (a .inquiry) (inquiry-entry (byte 1 (c .cdb) % 32) ∙ rw (odd-action (byte 1 (c .cdb)) ∙ a .vital))
+  unfolding entryOf
+  page-entry = rw (a .inquiry) (inquiry-entry (action (c .cdb)) ∙ rw (odd-action (c .cdb) ∙ a .vital))
 
   pub asks-vital : AsksFor (Tells VitalData) c
   unfolding askedOf askedIn askedBy requestBy
@@ -61,20 +64,24 @@ module _ (code : ℕ) (c : Call) (a : AsksPage code c) where
     command = refl;
   }
 
+  -- byte 2 is a number of one byte
+  page-is : numberIn pageBits (c .cdb) ≡ code
+  page-is = one-byte 2 (c .cdb) ∙ a .page
+
   page-told : (s : Store) → told VitalData (asks-vital .request) (s .unit) ≡ take (field 3 2 (c .cdb)) (vitalData code)
-  unfolding asks-vital requestBy number fieldNumber told
-  page-told s = rw (a .page)
+  unfolding asks-vital requestBy number spanBits bytesOf numberIn told
+  page-told s = rw page-is
 
   page-fields : fieldRows (entryOf (c .cdb)) (c .cdb)
-      ≡ invalidField if bit 2 (control c) ∷ invalidField if not (isOneOf code pages) ∷ invalidField if false ∷ invalidField if false ∷ []
-  unfolding fieldRows codeFieldRows serviceRows testRows wrong longOf
-  page-fields = rw (page-entry, a .page)
+      ≡ invalidField (nacaBits c) if bit 2 (control c) ∷ threeRows pageBits nowhere nowhere (not (isOneOf code pages)) false false
+  unfolding fieldRows checksOf codeChecks serviceChecks testChecks checkRows wrongIn checkOf isSet numberIn bit longOf
+  page-fields = rw (page-entry, page-is)
 
   -- a page that is returned is listed
   page-listed : (s : Store) → IsGood s c → T (isOneOf code pages)
   unfolding refuses
   page-listed s g =
-      not-not (isOneOf code pages) (false→T _ (row-fails invalidField _ _ tt (rows-after invalidField _ _ tt
+      not-not (isOneOf code pages) (false→T _ (row-fails (invalidField pageBits) _ _ tt (rows-after (invalidField (nacaBits c)) _ _ tt
       (ap first (sym page-fields) ∙ good-cleared s c (sym (step-answer s c) ∙ g) .fields))))
 
 -- ---- what is returned
@@ -121,9 +128,10 @@ pub pages-named : (bs : List ℕ) (code : ℕ) → Reads step code bs → byte 1
 pages-named bs code r = ap (byte 1) (page-read code bs r) ∙ page-named code (page-listed code (r .call) (r .asks) (r .store) (r .good))
 
 module _ (s : Store) (c : Call) (code : ℕ) (a : AsksPage code c) (f : Fielded s c) where
-  page-refused : step s c .seen .answer ≡ invalidField ↔ T (not (isOneOf code pages))
+  page-refused : numberOf (step s c .seen .answer) ≡ 2 ↔ T (not (isOneOf code pages))
   page-refused =
-      rw (or-false (not (isOneOf code pages))) at (refused-exactly s c (asks-vital code c a) f (not (isOneOf code pages)) false false (page-fields code c a))
+      rw (or-false (not (isOneOf code pages))) at
+      (refused-exactly s c (asks-vital code c a) f pageBits nowhere nowhere (not (isOneOf code pages)) false false (page-fields code c a))
 
   -- the guard lets commands that tell pass, and there is room
   guard-passes : guardAnswer (s .unit) c ≡ Good
@@ -142,7 +150,7 @@ module _ (s : Store) (c : Call) (code : ℕ) (a : AsksPage code c) (f : Fielded 
 
     page-good : IsGood s c
     page-good =
-        fields-pass s c (asks-vital code c a) f (not (isOneOf code pages)) false false (page-fields code c a)
+        fields-pass s c (asks-vital code c a) f pageBits nowhere nowhere (not (isOneOf code pages)) false false (page-fields code c a)
         (T-false _ (not-not-intro (isOneOf code pages) listed)) refl refl
         ∙ next-after (guardAnswer (s .unit) c) _ guard-passes ∙ own-passes
 
@@ -168,7 +176,7 @@ unfolding pageCodes vitalData
 codes-read bs r = ap pageCodes (page-read 0x00 bs r) ∙ pages-told
 
 pub pages-unlisted : (bs : List ℕ) → Reads step 0x00 bs → (s : Store) (c : Call) (code : ℕ) → AsksPage code c → Fielded s c
-    → step s c .seen .answer ≡ invalidField ↔ T (not (isOneOf code (pageCodes bs)))
+    → numberOf (step s c .seen .answer) ≡ 2 ↔ T (not (isOneOf code (pageCodes bs)))
 pages-unlisted bs r s c code a f = rw (codes-read bs r) (page-refused s c code a f)
 
 pub pages-served : (bs : List ℕ) → Reads step 0x00 bs → (s : Store) (c : Call) (code : ℕ) → AsksPage code c → Fielded s c

@@ -14,6 +14,8 @@ use Rattle.demands.proofs.Telling.{telling}
 use Rattle.demands.proofs.WriteSame.{writes-same}
 use Rattle.demands.proofs.MapTold.{map-told}
 use Rattle.demands.proofs.Limits.{limits}
+use Rattle.demands.proofs.Pointed.{pointed}
+use Rattle.demands.proofs.Places.{places-true}
 use Rattle.demands.proofs.FromFresh.{from-fresh}
 use Rattle.demands.proofs.Demand3.{demand-3, secrecy}
 use Rattle.demands.proofs.AtC.{faithful, demand-1-at-c, demand-3-at-c}
@@ -33,6 +35,8 @@ proved = record {
   map-told = map-told;
   one-page = tells-only;
   limits = limits;
+  pointed = pointed;
+  places-true = places-true;
   from-fresh = from-fresh;
   taken-over = fresh-taken-over;
   demand-3 = demand-3;

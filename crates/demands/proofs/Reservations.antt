@@ -4,6 +4,7 @@ use mathlib.Core.Path.{_≡_, refl, sym, ap, _∙_, subst}
 use mathlib.Core.Bool.{Bool, true, false, not, _&&_, _||_, cond}
 use Prim.Native.Nat.{ℕ}
 use lib.Dec.{T, eqb, eqb→eq}
+use Rattle.fields.specs.Bits.{numberIn}
 use Rattle.fields.proofs.Tests.{both, or-r, not-map, nand-rest, not-not, test, by-test, false→T}
 use Rattle.answers.specs.declared.Answer.the-variants.{Good, Conflict}
 use Rattle.answers.specs.Answers.{listField, noPlace, otherType}
@@ -15,7 +16,7 @@ use Rattle.rights.specs.declared.Action.the-variants.{Register, Reserve, Releas
 use Rattle.rights.specs.declared.Parameters.{Parameters}
 use Rattle.rights.specs.Places.{registered, keyOf}
 use Rattle.rights.specs.Rights.{isType, oneHolds, allHold, holds, holderKey, placesApart, withPlaces, withReservation, withGeneration, held, ended, raised}
-use Rattle.rights.specs.Actions.{crowded, actionRows, registering, reserving, clearing, releasing, preempting, takingOver, acted}
+use Rattle.rights.specs.Actions.{serviceKeyBits, crowded, actionRows, registering, reserving, clearing, releasing, preempting, takingOver, acted}
 use Rattle.rights.proofs.Keeping.{makes, places-apart, rights-places}
 use Rattle.rights.proofs.Holders.{holder-registered, key-cleared, none-registered, holder-key, holder-is, preempted-key, preempted-kind, preempted-over, preempted-else, preempted-same, reserving-kind, reserving-holds, registering-key, registering-others, registering-holds, registering-kind, unregistering-ends}
 use Rattle.rights.proofs.TakingOver.{taken-key, taken-kind, taken-holds}
@@ -85,7 +86,7 @@ module _ (s : Store) (c : Call) (w : AsksFor (Alters Preempt) c) (e : IsGood s c
   preempted : after step s c .unit .rights
       ≡ cond (eqb (serviceKey c) 0) (takingOver (s .unit .rights) (c .nexus) (w .request .kind))
       (preempting (s .unit .rights) (c .nexus) (w .request .kind) (serviceKey c))
-  unfolding acted parametersOf serviceKey
+  unfolding acted parametersOf numberIn serviceKey
   preempted = altered Preempt s c w e
 
   pub places-distinct : T (placesApart (s .unit .rights .places))
@@ -101,10 +102,10 @@ module _ (s : Store) (c : Call) (w : AsksFor (Alters Preempt) c) (e : IsGood s c
     taken = preempted ∙ one-way (eqb (serviceKey c) 0) _ _ z
 
     for-all : T (allHold (typeIn s))
-    unfolding typeIn serviceKey parametersOf actionRows refuses
+    unfolding typeIn serviceKey parametersOf numberIn actionRows refuses
     for-all =
         not-not (allHold (s .unit .rights .kind)) (nand-rest (eqb (serviceKey c) 0) (not (allHold (s .unit .rights .kind))) z
-        (false→T _ (row-fails listField _ _ tt (altered-own Preempt s c w e))))
+        (false→T _ (row-fails (listField serviceKeyBits) _ _ tt (altered-own Preempt s c w e))))
 
     pub zero-over : T (takesOver s c)
     unfolding takesOver
@@ -240,11 +241,11 @@ registers-room RegisterIgnoring r n o t e = false→T (crowded r n o) (row-fails
 
 module _ (a : Action) (k : T (registers a)) (s : Store) (c : Call) (w : AsksFor (Alters a) c) (e : IsGood s c) where
   registered-as : after step s c .unit .rights ≡ registering (s .unit .rights) (c .nexus) (serviceKey c)
-  unfolding parametersOf serviceKey
+  unfolding parametersOf numberIn serviceKey
   registered-as = altered a s c w e ∙ registers-acted a (s .unit .rights) (c .nexus) (parametersOf (w .request) (c .dataOut)) k
 
   pub register-key : keyIn (after step s c) (c .nexus) ≡ serviceKey c
-  unfolding keyIn crowded parametersOf serviceKey
+  unfolding keyIn crowded parametersOf numberIn serviceKey
   register-key =
       ap (λ (r : Rights). keyOf (c .nexus) (r .places)) registered-as
       ∙ registering-key (s .unit .rights) (c .nexus) (serviceKey c)

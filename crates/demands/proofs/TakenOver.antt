@@ -9,6 +9,7 @@ use native.Mathlib.Omega.{arith}
 use lib.Dec.{T, eqb, eqb-refl}
 use lib.ListN.{length}
 use borrow.Author.Tests.{eq-eqb, ne-eqb}
+use Rattle.fields.specs.Bits.{numberIn}
 use Rattle.fields.proofs.Tests.{by-equal, T-true}
 use Rattle.answers.specs.declared.Answer.the-variants.{Conflict}
 use Rattle.answers.specs.Answers.{noPlace}
@@ -49,7 +50,7 @@ no-room-needed a b false t = absurd t
 module _ (s : Store) (c : Call) (w : Sends Register c) (u : T (usable s)) (own : senderKey c ≡ 0)
     (new : T (not (registered (c .nexus) (s .unit .rights .places)))) (room : T (vacant (s .unit .rights .places))) where
   joins-good : IsGood s c
-  unfolding keyWrong actionRows crowded parametersOf senderKey serviceKey
+  unfolding keyWrong actionRows crowded parametersOf numberIn senderKey serviceKey
   joins-good =
       sent-answer Register s c w u
       ∙ row-pass Conflict _ _ (ap not (eq-eqb _ _ (own ∙ sym (key-none (c .nexus) (s .unit .rights .places) new))))
@@ -57,7 +58,7 @@ module _ (s : Store) (c : Call) (w : Sends Register c) (u : T (usable s)) (own :
       (no-room-needed (not (registered (c .nexus) (s .unit .rights .places))) (not (eqb (serviceKey c) 0)) (vacant (s .unit .rights .places)) room) ∙ row-end
 
   joins-rights : after step s c .unit .rights ≡ registering (s .unit .rights) (c .nexus) (serviceKey c)
-  unfolding acted parametersOf serviceKey
+  unfolding acted parametersOf numberIn serviceKey
   joins-rights = altered Register s c (w .asked) joins-good
 
 -- ---- the rights on the way

@@ -18,7 +18,7 @@ use Rattle.demands.specs.History.{Build, after, kept, add, watched, hear
 use Rattle.store.specs.Step.{step}
 use Rattle.demands.specs.Demands.{Demand2, Demand3}
 use Rattle.demands.specs.Useless.{Refusing, Constant, Leaving, blind, unmoved, constant, refusing, leaving, isWrite, lacksRoom, roomFirst}
-use Rattle.demands.specs.Checker.{Want, good, lays, refused, whole, met, Case, Expect, _gives_, run, passedBy, passed, allPassed}
+use Rattle.demands.specs.Checker.{Want, good, lays, refusedAt, refused, whole, met, Case, Expect, _gives_, run, passedBy, passed, allPassed}
 use Rattle.demands.specs.Bench.{block, two, made, write-10}
 use Rattle.demands.specs.Cases.{caseOf, caseStill, caseNew, caseA, caseB, caseC, caseD, caseE, caseF, caseG, caseH, caseI, cases, writeH}
 use Rattle.demands.proofs.Computing.{meaning}
@@ -80,10 +80,10 @@ number-good (Refused s) e = absurd (coded (s .refusal) e)
   where
     coded : (r : Refusal) → codesOf r .number ≡ 0 → ⊥
     coded NotListed e = omega arith
-    coded InvalidField e = omega arith
+    coded (InvalidField at top n) e = omega arith
     coded OutOfRange e = omega arith
     coded ListLength e = omega arith
-    coded ListField e = omega arith
+    coded (ListField at top n) e = omega arith
     coded NoPlace e = omega arith
     coded OtherType e = omega arith
     coded NoRoom e = omega arith
@@ -119,7 +119,7 @@ module _ (a : Answer) (f : Build) (k : Constant a f) where
   constantly s c n e = subst (λ (b : Answer). numberOf b ≡ n) (k .answers s c) e
 
   pub constant-fails-E : T (not (passed f caseE))
-  unfolding passed passedBy caseE caseNew caseStill caseOf good refused lays
+  unfolding passed passedBy caseE caseNew caseStill caseOf good refused refusedAt lays
   constant-fails-E =
       not-T (passed f caseE)
       (λ t. zero-or-three (numberOf a) (constantly _ _ 0 (shown f _ _ _ _ _ t)) (constantly _ _ 3 (shown f _ _ _ _ _ (rest f _ _ _ _ _ t))))
@@ -128,7 +128,7 @@ module _ (a : Answer) (f : Build) (k : Constant a f) where
       zero-or-three n e d = omega arith
 
   pub constant-fails-H : T (not (passed f caseH))
-  unfolding passed passedBy caseH caseOf good refused lays
+  unfolding passed passedBy caseH caseOf good refused refusedAt lays
   constant-fails-H =
       not-T (passed f caseH)
       (λ t. zero-or-eight (numberOf a) (constantly _ _ 0 (shown f _ _ _ _ _ t)) (constantly _ _ 8 (shown f _ _ _ _ _ (rest f _ _ _ _ _ t))))
@@ -144,7 +144,7 @@ module _ (f : Build) (l : Leaving f) where
   next end s c w es t = subst (λ (x : Store). T (run whole f end x es)) (l .stays s c) (rest f end s c w es t)
 
   pub leaving-fails-H : T (not (passed f caseH))
-  unfolding passed passedBy caseH caseOf good refused lays
+  unfolding passed passedBy caseH caseOf good refused refusedAt lays
   leaving-fails-H = not-T (passed f caseH) go
     where
       eight-or-none : (n : ℕ) → n ≡ 8 → n ≡ 0 → ⊥

@@ -1,22 +1,26 @@
--- The 10 and 16 byte forms of READ and WRITE: one law over the row of fields and its widths, and the two forms as its instances.
+-- The 10 and 16 byte forms of READ and WRITE: one law over the row of fields and its widths, and the two forms as its instances. What they refuse for a
+-- wrong field they refuse alike, but each form has its own place for NACA and for the count, and Q-4 has it told.
 -- Assumes nothing.
 use mathlib.Core.Path.{_≡_, refl, sym, ap, ap₂, _∙_}
-use mathlib.Core.Bool.{false}
+use mathlib.Core.Logic.{_≢_}
+use mathlib.Core.Bool.{Bool, true, false, not}
 use mathlib.Core.List.{List, [], _∷_, _++_}
 use Prim.Native.Nat.{ℕ, _+_, _-_, _^_, _<_}
 use native.Mathlib.Omega.{arith}
 use native.Mathlib.Nat.{add-zero, mod-eq-of-lt, lt-of-lt-of-le}
 use borrow.Author.Tests.{ne-eqb}
-use lib.Dec.{T, leb, ltb, lit≤}
+use lib.Dec.{T, ltb, lit≤}
 use lib.ListN.{length}
 use lib.Seq.{drop-at}
 use Rattle.fields.specs.Bytes.{zeros}
 use Rattle.fields.specs.Field.{byte, bit, field, bytes}
+use Rattle.fields.specs.Bits.{Bits, within, numberIn}
 use Rattle.fields.proofs.BytesLaws.{length-zeros}
 use Rattle.fields.proofs.FieldLaws.{field-drop, field-bytes, length-bytes}
 use Rattle.answers.specs.declared.Answer.{Answer}
-use Rattle.answers.specs.Answers.{invalidField}
-use Rattle.answers.specs.Order.{_if_}
+use Rattle.answers.specs.Answers.{invalidField, codesOf, numberOf}
+use Rattle.answers.specs.Order.{_if_, first, next, refuses, firstOf, nextBy}
+use Rattle.answers.proofs.OrderLaws.{next-after, next-refuses, good-cases}
 use Rattle.pool.specs.Bounds.{mostTransfer}
 use Rattle.pool.specs.Pool.{Pool}
 use Rattle.forms.specs.declared.Move.{Move}
@@ -27,17 +31,17 @@ use Rattle.forms.specs.declared.Form.{Form}
 use Rattle.forms.specs.declared.Service.the-variants.{Served}
 use Rattle.forms.specs.declared.Entry.{Entry}
 use Rattle.forms.specs.declared.Request.{Request}
-use Rattle.forms.specs.Forms.{two, four, eight, fieldNumber, form, action, takes, lines, listed, lookup, entryFor, entryOf, number, requestBy, askedBy, askedIn, askedOf, countIn}
-use Rattle.forms.specs.Tests.{wrong, fieldRows}
+use Rattle.forms.specs.Forms.{two, four, eight, bytesOf, spanBits, form, action, takes, lines, listed, lookup, entryFor, entryOf, number, requestBy, askedBy, askedIn, askedOf, countIn}
+use Rattle.forms.specs.Tests.{codeRows, lengthRows, notZero, wrongIn, checkOf, fieldRows}
 use Rattle.forms.proofs.Fields.{testsOf}
 use Rattle.store.specs.Store.{Store, Call, Seen, withPool, leaves, seenOf}
 use Rattle.store.specs.Move.{moveRows, moved, fetched}
-use Rattle.store.specs.Step.{callRows, step}
-use Rattle.store.proofs.Parts.{SameRows, same-answer}
-use Rattle.store.proofs.StoreLaws.{step-seen, step-store}
-use Rattle.demands.specs.Contents.{Asks, SameRange, isTransfer, longOf, control, SaysSame, transferCdb, cdb10, cdb16, callWith}
+use Rattle.store.specs.Step.{callRows, guardRows, ownRows, step, answerTo}
+use Rattle.store.proofs.Parts.{fieldAnswer, parts}
+use Rattle.store.proofs.StoreLaws.{step-answer, step-seen, step-store}
+use Rattle.demands.specs.Contents.{Asks, SameRange, isTransfer, longOf, control, SaysSame, SameButPlace, transferCdb, cdb10, cdb16, callWith}
 use Rattle.demands.proofs.Moving.{asks-guard, asks-rows, asks-data, asks-store}
-use Rattle.demands.proofs.Fielded.{code-rows, not-empty, length-rows, move-rows}
+use Rattle.demands.proofs.Fielded.{code-rows, not-empty, length-rows, nacaBits, nowhere, sizeSpan, size-is, threeRows, move-rows}
 
 -- ---- one CDB by its row
 
@@ -49,11 +53,18 @@ transfer-tests WriteSame t = absurd t
 transfer-tests Unmap t = absurd t
 transfer-tests Status t = absurd t
 
+-- "Byte 1 bits 7-5 not 0"
+abbrev pub protectionBits : Bits
+protectionBits = within 1 7 3
+
+unfoldable pub protectionIn : List ℕ → Bool
+protectionIn cdb = notZero (numberIn protectionBits cdb)
+
 pub field-rows : (m : Move) → T (isTransfer m) → (c : Call) (a : Asks m c) → fieldRows (entryOf (c .cdb)) (c .cdb)
-    ≡ invalidField if bit 2 (control c) ∷ invalidField if leb 32 (byte 1 (c .cdb)) ∷ invalidField if ltb mostTransfer (countIn (a .request))
-    ∷ invalidField if false ∷ []
-unfolding wrong
-field-rows m t c a = move-rows m c a ∙ rw (transfer-tests m t)
+    ≡ invalidField (nacaBits c) if bit 2 (control c)
+    ∷ threeRows protectionBits (spanBits (sizeSpan a)) nowhere (protectionIn (c .cdb)) (ltb mostTransfer (countIn (a .request))) false
+unfolding checkOf wrongIn protectionIn number
+field-rows m t c a = move-rows m c a ∙ rw (transfer-tests m t, size-is a)
 
 -- ---- the same requests
 
@@ -82,9 +93,44 @@ module _ (p q : Request) (e : SameRange p q) (c d : Call) (i : c .dataIn ≡ d .
   moved-same Unmap x t = absurd t
   moved-same Status x t = absurd t
 
+-- ---- the same but for the place of a wrong field
+
+-- answers: the same number, and where it is not 2 the same answer
+record Alike (x y : Answer) : Type 0 where
+  pub number : numberOf x ≡ numberOf y
+  pub same : numberOf x ≢ 2 → x ≡ y
+
+itself : (x : Answer) → Alike x x
+itself x = record { number = refl; same = λ _. refl }
+
+-- whoever stands before them
+behind : (a x y : Answer) → Alike x y → Alike (next a x) (next a y)
+behind a x y h =
+    good-cases a (λ g. rw (next-after a x g, next-after a y g) h) (λ t. rw (next-refuses a x t, next-refuses a y t) (itself a))
+
+-- the same tests of fields at different places, and the same behind them
+places-alike : (p p′ q q′ r r′ : Bits) (n x y : Bool) (a : Answer)
+    → Alike (next (first (invalidField p if n ∷ threeRows q r nowhere x y false)) a)
+    (next (first (invalidField p′ if n ∷ threeRows q′ r′ nowhere x y false)) a)
+unfolding firstOf nextBy refuses numberOf codesOf
+places-alike p p′ q q′ r r′ true x y a = record { number = refl; same = λ d. absurd (d refl) }
+places-alike p p′ q q′ r r′ false true y a = record { number = refl; same = λ d. absurd (d refl) }
+places-alike p p′ q q′ r r′ false false true a = record { number = refl; same = λ d. absurd (d refl) }
+places-alike p p′ q q′ r r′ false false false a = itself a
+
+-- tests that say the same
+tests-alike : (p p′ q q′ r r′ : Bits) (n n′ x x′ y y′ : Bool) (a : Answer) → n ≡ n′ → x ≡ x′ → y ≡ y′
+    → Alike (next (first (invalidField p if n ∷ threeRows q r nowhere x y false)) a)
+    (next (first (invalidField p′ if n′ ∷ threeRows q′ r′ nowhere x′ y′ false)) a)
+tests-alike p p′ q q′ r r′ n n′ x x′ y y′ a i j k = rw (i, j, k) (places-alike p p′ q q′ r r′ n′ x′ y′ a)
+
 -- ---- of whole calls
 
 module _ (m : Move) (t : T (isTransfer m)) (s : Store) (c d : Call) (a : Asks m c) (b : Asks m d) (e : SaysSame a b) where
+  flags-same : protectionIn (c .cdb) ≡ protectionIn (d .cdb)
+  unfolding protectionIn notZero numberIn
+  flags-same = ap not (e .flags)
+
   call-same : callRows c ≡ callRows d
   unfolding callRows
   call-same =
@@ -92,44 +138,63 @@ module _ (m : Move) (t : T (isTransfer m)) (s : Store) (c d : Call) (a : Asks m 
       let q = not-empty b (e .second-long) in
       rw (e .nexus, ne-eqb (length (c .cdb)) 0 (omega arith), ne-eqb (length (d .cdb)) 0 (omega arith), e .sense)
 
-  field-same : fieldRows (entryOf (c .cdb)) (c .cdb) ≡ fieldRows (entryOf (d .cdb)) (d .cdb)
-  field-same = field-rows m t c a ∙ rw (e .naca, e .flags, e .range .count) (sym (field-rows m t d b))
+  code-same : codeRows (entryOf (c .cdb)) ≡ codeRows (entryOf (d .cdb))
+  code-same = code-rows a ∙ sym (code-rows b)
 
-  rows-agree : SameRows s c d
-  rows-agree = record {
-    call = call-same;
-    code = code-rows a ∙ sym (code-rows b);
-    length = length-rows a (e .first-long) ∙ sym (length-rows b (e .second-long));
-    fields = field-same;
-    guard = asks-guard m c a (s .unit .rights) (c .nexus) ∙ rw (e .nexus) (sym (asks-guard m d b (s .unit .rights) (d .nexus)));
-    own = asks-rows m c a s
-        ∙ rows-same (a .request) (b .request) (e .range) c d (e .dataIn) (e .dataOut) m (s .unit .capacity) (s .pool) t
-        ∙ sym (asks-rows m d b s);
-  }
+  length-same : lengthRows (entryOf (c .cdb)) (c .cdb) ≡ lengthRows (entryOf (d .cdb)) (d .cdb)
+  length-same = length-rows a (e .first-long) ∙ sym (length-rows b (e .second-long))
+
+  guard-same : guardRows (askedOf (c .cdb)) (s .unit .rights) (c .nexus) ≡ guardRows (askedOf (d .cdb)) (s .unit .rights) (d .nexus)
+  guard-same = asks-guard m c a (s .unit .rights) (c .nexus) ∙ rw (e .nexus) (sym (asks-guard m d b (s .unit .rights) (d .nexus)))
+
+  own-same : ownRows (askedOf (c .cdb)) s c ≡ ownRows (askedOf (d .cdb)) s d
+  own-same =
+      asks-rows m c a s
+      ∙ rows-same (a .request) (b .request) (e .range) c d (e .dataIn) (e .dataOut) m (s .unit .capacity) (s .pool) t
+      ∙ sym (asks-rows m d b s)
+
+  -- the fields are tested alike, each at its place
+  fields-alike : (x : Answer) → Alike (next (fieldAnswer c) x) (next (fieldAnswer d) x)
+  fields-alike x =
+      rw (field-rows m t c a, field-rows m t d b)
+      (tests-alike _ _ _ _ _ _ _ _ _ _ _ _ x (e .naca) flags-same (ap (ltb mostTransfer) (e .range .count)))
+
+  answers-alike : Alike (answerTo s c) (answerTo s d)
+  answers-alike =
+      rw (parts s c, parts s d, call-same, code-same, length-same, guard-same, own-same)
+      (behind _ _ _ (behind _ _ _ (behind _ _ _ (behind _ _ _ (fields-alike _)))))
 
   buffers-same : (x : Answer) (bs : List ℕ) → seenOf x bs c ≡ seenOf x bs d
   unfolding seenOf
   buffers-same x bs = rw (e .dataIn, e .sense)
 
-  seen-same : step s c .seen ≡ step s d .seen
-  seen-same =
-      step-seen s c
-      ∙ ap₂ (λ (x : Answer) (bs : List ℕ). seenOf x bs c) (same-answer s c d rows-agree)
-      (asks-data m c a s ∙ fetched-same (a .request) (b .request) (e .range) c d (e .dataIn) (e .dataOut) m (s .unit .capacity) (s .pool) t ∙ sym (asks-data m d b s))
-      ∙ buffers-same _ _
-      ∙ sym (step-seen s d)
+  module _ (same : answerTo s c ≡ answerTo s d) where
+    seen-same : step s c .seen ≡ step s d .seen
+    seen-same =
+        step-seen s c
+        ∙ ap₂ (λ (x : Answer) (bs : List ℕ). seenOf x bs c) same
+        (asks-data m c a s ∙ fetched-same (a .request) (b .request) (e .range) c d (e .dataIn) (e .dataOut) m (s .unit .capacity) (s .pool) t ∙ sym (asks-data m d b s))
+        ∙ buffers-same _ _
+        ∙ sym (step-seen s d)
 
-  store-same : step s c .store ≡ step s d .store
-  store-same =
-      step-store s c
-      ∙ ap₂ (λ (x : Answer) (y : Store). leaves x y s) (same-answer s c d rows-agree)
-      (asks-store m c a s ∙ ap (withPool s) (moved-same (a .request) (b .request) (e .range) c d (e .dataIn) (e .dataOut) m (s .pool) t) ∙ sym (asks-store m d b s))
-      ∙ sym (step-store s d)
+    store-same : step s c .store ≡ step s d .store
+    store-same =
+        step-store s c
+        ∙ ap₂ (λ (x : Answer) (y : Store). leaves x y s) same
+        (asks-store m c a s ∙ ap (withPool s) (moved-same (a .request) (b .request) (e .range) c d (e .dataIn) (e .dataOut) m (s .pool) t) ∙ sym (asks-store m d b s))
+        ∙ sym (step-store s d)
 
--- READs, or WRITEs, that say the same have the same result, whatever the form of each: all that is seen, and the store
-pub same-transfer : (m : Move) → T (isTransfer m) → (s : Store) (c d : Call) (a : Asks m c) (b : Asks m d) → SaysSame a b → step s c ≡ step s d
+-- READs, or WRITEs, that say the same have the same result, whatever the form of each, but for the place of a wrong field: all that is seen, and the
+-- store
+pub same-transfer : (m : Move) → T (isTransfer m) → (s : Store) (c d : Call) (a : Asks m c) (b : Asks m d) → SaysSame a b
+    → SameButPlace (step s c) (step s d)
 same-transfer m t s c d a b e =
-    ap₂ (λ (x : Seen) (y : Store). record { seen = x; store = y }) (seen-same m t s c d a b e) (store-same m t s c d a b e)
+    let h = answers-alike m t s c d a b e in
+    record {
+      number = ap numberOf (step-answer s c) ∙ h .number ∙ sym (ap numberOf (step-answer s d));
+      same = λ n. let same = h .same (λ z. n (ap numberOf (step-answer s c) ∙ z)) in
+          ap₂ (λ (x : Seen) (y : Store). record { seen = x; store = y }) (seen-same m t s c d a b e same) (store-same m t s c d a b e same);
+    }
 
 -- ---- the two forms
 
@@ -177,8 +242,8 @@ module _ (s : Store) (nexus address count : ℕ) (dataOut dataIn sense : List �
 
   -- two codes whose rows are those of a 10 and of a 16 byte form
   ten-sixteen : (m : Move) → T (isTransfer m) → (x y : ℕ) → entryFor x 0 ≡ row10 m → entryFor y 0 ≡ row16 m
-      → step s (callWith (cdb10 x address count) nexus dataOut dataIn sense) ≡ step s (callWith (cdb16 y address count) nexus dataOut dataIn sense)
-  unfolding cdb10 cdb16 transferCdb bytes zeros byte entryOf action longOf asks-by requestBy number fieldNumber
+      → SameButPlace (step s (callWith (cdb10 x address count) nexus dataOut dataIn sense)) (step s (callWith (cdb16 y address count) nexus dataOut dataIn sense))
+  unfolding cdb10 cdb16 transferCdb bytes zeros byte entryOf action numberIn longOf asks-by requestBy number spanBits bytesOf
   ten-sixteen m t x y p q =
       same-transfer m t s _ _ (asks-by m _ 10 _ p refl) (asks-by m _ 16 _ q refl) (record {
         range = record {
@@ -195,11 +260,11 @@ module _ (s : Store) (nexus address count : ℕ) (dataOut dataIn sense : List �
         sense = refl;
       })
 
-  -- READ(10) and READ(16), and WRITE(10) and WRITE(16), of the same blocks have the same result
-  pub read-forms : step s (callWith (cdb10 0x28 address count) nexus dataOut dataIn sense) ≡ step s (callWith (cdb16 0x88 address count) nexus dataOut dataIn sense)
+  -- READ(10) and READ(16), and WRITE(10) and WRITE(16), of the same blocks have the same result, but for the place of a count that is too high
+  pub read-forms : SameButPlace (step s (callWith (cdb10 0x28 address count) nexus dataOut dataIn sense)) (step s (callWith (cdb16 0x88 address count) nexus dataOut dataIn sense))
   unfolding entryFor lines lookup takes isTransfer
   read-forms = ten-sixteen Read tt 0x28 0x88 refl refl
 
-  pub write-forms : step s (callWith (cdb10 0x2A address count) nexus dataOut dataIn sense) ≡ step s (callWith (cdb16 0x8A address count) nexus dataOut dataIn sense)
+  pub write-forms : SameButPlace (step s (callWith (cdb10 0x2A address count) nexus dataOut dataIn sense)) (step s (callWith (cdb16 0x8A address count) nexus dataOut dataIn sense))
   unfolding entryFor lines lookup takes isTransfer
   write-forms = ten-sixteen Write tt 0x2A 0x8A refl refl

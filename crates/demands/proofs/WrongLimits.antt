@@ -11,7 +11,7 @@ use Rattle.fields.specs.Field.{field}
 use Rattle.answers.specs.Answers.{invalidField, outOfRange, codesOf, numberOf}
 use Rattle.rights.specs.Rights.{isOneOf}
 use Rattle.forms.specs.declared.Move.the-variants.{Read}
-use Rattle.forms.specs.Forms.{countIn}
+use Rattle.forms.specs.Forms.{countIn, pageBits}
 use Rattle.store.specs.Store.{Store, Call, seenOf}
 use Rattle.demands.specs.History.{Build}
 use Rattle.demands.specs.Contents.{Asks, isTransfer, longOf, transferCdb, cdb10}
@@ -77,7 +77,7 @@ pub understated-fails : Limits understated → ⊥
 unfolding numberOf codesOf isTransfer
 understated-fails l =
     let law = l .transfers _ limits-read Read tt shown reads128 read-asked read-fielded read-unprotected .1 (omega (arith, limit-told, count-asked)) in
-    let same = ap numberOf (sym count-passes ∙ law) in omega arith
+    let same = sym (ap numberOf count-passes) ∙ law in omega arith
 
 -- ---- page B1h is served and not listed
 
@@ -97,11 +97,11 @@ pub unlisted-served-fails : Limits unlistedServed → ⊥
 unfolding numberOf codesOf
 unlisted-served-fails l =
     let law = l .unlisted _ pages-read shown (asksFor 0xB1 8) 0xB1 (asked-page 0xB1 8) (page-fielded 0xB1 8) .1 not-listed in
-    let same = ap numberOf (sym page-served ∙ law) in omega arith
+    let same = sym (ap numberOf page-served) ∙ law in omega arith
 
 -- ---- no page is served
 
-mute-refuses : (s : Store) (c : Call) (code : ℕ) → AsksPage code c → mute s c .seen .answer ≡ invalidField
+mute-refuses : (s : Store) (c : Call) (code : ℕ) → AsksPage code c → mute s c .seen .answer ≡ invalidField pageBits
 unfolding mute seenOf
 mute-refuses s c code a = rw (a .inquiry, a .vital)
 

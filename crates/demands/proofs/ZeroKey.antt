@@ -8,6 +8,7 @@ use Prim.Native.Nat.{ℕ, _+_, _%_, _^_}
 use lib.Dec.{T, eqb, eqb-refl}
 use lib.ListN.{length, take}
 use borrow.Author.Tests.{eq-eqb, ne-eqb, le-ltb}
+use Rattle.fields.specs.Bits.{numberIn}
 use Rattle.fields.proofs.Tests.{by-equal, by-test, T-true}
 use Rattle.answers.specs.declared.Answer.{Answer}
 use Rattle.answers.specs.declared.Answer.the-variants.{Good, Conflict, Short}
@@ -21,7 +22,7 @@ use Rattle.rights.specs.declared.Parameters.{Parameters}
 use Rattle.rights.specs.declared.Decision.{Decision}
 use Rattle.rights.specs.Places.{registered, keyOf, known}
 use Rattle.rights.specs.Rights.{allHold, withPlaces, withReservation, withGeneration, held, raised}
-use Rattle.rights.specs.Actions.{flagRows, stranger, keyWrong, actionRows, decisionRows, preempting, takingOver, acted, decided}
+use Rattle.rights.specs.Actions.{serviceKeyBits, flagRows, stranger, keyWrong, actionRows, decisionRows, preempting, takingOver, acted, decided}
 use Rattle.rights.specs.Told.{keysData, reservationData}
 use Rattle.rights.proofs.DecisionLaws.{flags-passed}
 use Rattle.rights.proofs.Keeping.{makes}
@@ -77,7 +78,7 @@ module _ (a : Action) (s : Store) (c : Call) (w : Sends a c) (u : T (usable s)) 
 
 module _ (s : Store) (c : Call) (w : Sends Preempt c) (z : serviceKey c ≡ 0) (u : T (usable s)) where
   pub zero-answer : step s c .seen .answer ≡ zeroAnswer s c
-  unfolding zeroAnswer gaveKey senderKey serviceKey isRegistered keyIn typeIn parametersOf keyWrong stranger
+  unfolding zeroAnswer gaveKey senderKey serviceKey isRegistered keyIn typeIn parametersOf numberIn keyWrong stranger
   zero-answer =
       sent-answer Preempt s c w u
       ∙ go (registered (c .nexus) (s .unit .rights .places)) (eqb (senderKey c) (keyOf (c .nexus) (s .unit .rights .places)))
@@ -192,9 +193,9 @@ unfolding decided decisionRows flagRows keyWrong actionRows acted former formerR
 rules-agree r n o = go (stranger r n o) (eqb (o .service) 0) (allHold (r .kind)) (known (o .service) (r .places))
   where
     go : (x z h k : Bool) → T (not (z && h))
-        → decision (Conflict if x ∷ listField if (z && not h) ∷ Conflict if (not z && not k) ∷ [])
+        → decision (Conflict if x ∷ listField serviceKeyBits if (z && not h) ∷ Conflict if (not z && not k) ∷ [])
         (cond z (takingOver r n (o .kind)) (preempting r n (o .kind) (o .service))) r
-        ≡ decision (Conflict if x ∷ listField if z ∷ Conflict if not k ∷ []) (preempting r n (o .kind) (o .service)) r
+        ≡ decision (Conflict if x ∷ listField serviceKeyBits if z ∷ Conflict if not k ∷ []) (preempting r n (o .kind) (o .service)) r
     go true z h k t = refl
     go false true true k t = absurd t
     go false true false k t = refl

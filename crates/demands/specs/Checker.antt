@@ -37,10 +37,23 @@ good bs c = record { number = 0; status = Given 0x00; sense = c .sense; returned
 unfoldable pub lays : ℕ → Status → List ℕ → Call → Want
 lays number status bs c = record { number = number; status = status; sense = over bs (c .sense); returned = 0; dataIn = c .dataIn }
 
--- status 02h, and "fixed format: byte 0 70h, byte 2 the key, byte 7 0Ah, bytes 12 and 13 the codes, others 0"
+-- status 02h, and "fixed format: byte 0 70h, byte 2 the key, byte 7 0Ah, bytes 12 and 13 the codes, others 0", but for `place`, the three bytes 15 to
+-- 17, by Q-4: "For answers 2 and 5 fill sense bytes 15 to 17 per SPC: byte 15 bit 7 set, bit 6 set for the CDB and clear for the list, bit 3 set, bits
+-- 2-0 the top bit of the field; 16-17 the field's first byte."
+unfoldable pub refusedAt : ℕ → ℕ → ℕ → ℕ → List ℕ → Call → Want
+refusedAt n key asc ascq place =
+    lays n (Given 0x02) (0x70 ∷ 0 ∷ key ∷ 0 ∷ 0 ∷ 0 ∷ 0 ∷ 0x0A ∷ 0 ∷ 0 ∷ 0 ∷ 0 ∷ asc ∷ ascq ∷ 0 ∷ place)
+
+-- all other answers with sense point nowhere
 unfoldable pub refused : ℕ → ℕ → ℕ → ℕ → Call → Want
-refused n key asc ascq =
-    lays n (Given 0x02) (0x70 ∷ 0 ∷ key ∷ 0 ∷ 0 ∷ 0 ∷ 0 ∷ 0x0A ∷ 0 ∷ 0 ∷ 0 ∷ 0 ∷ asc ∷ ascq ∷ 0 ∷ 0 ∷ 0 ∷ 0 ∷ [])
+refused n key asc ascq = refusedAt n key asc ascq (0 ∷ 0 ∷ 0 ∷ [])
+
+-- 2, and 5
+unfoldable pub wrongFieldAt : List ℕ → Call → Want
+wrongFieldAt place = refusedAt 2 0x05 0x24 0x00 place
+
+unfoldable pub wrongListAt : List ℕ → Call → Want
+wrongListAt place = refusedAt 5 0x05 0x26 0x00 place
 
 -- 10, status 18h
 unfoldable pub conflicts : Call → Want

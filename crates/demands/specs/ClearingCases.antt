@@ -8,6 +8,7 @@ use Rattle.store.specs.Store.{Call}
 use Rattle.demands.specs.Checker.{good, refused, conflicts, no-status, Case, _gives_}
 use Rattle.demands.specs.Bench.{block, new, places, two, made, made-of, lent, call, read-10}
 use Rattle.demands.specs.Cases.{caseOf, caseStill}
+use Rattle.demands.specs.FurtherCases.{wrongNaca16, wrongProtection, wrongCount16, wrongSameAnchor, wrongAction}
 
 -- "93h: address 2-9, count 10-13", byte 1 as given
 unfoldable pub same-16 : ℕ → ℕ → ℕ → ℕ → List ℕ → Call
@@ -50,12 +51,12 @@ caseSame = caseOf (new 8)
 -- "Count 0 or above 128, WRPROTECT or ANCHOR: 2"; then 3, then 12, in WRITE's order; NACA in both commands
 unfoldable pub caseSameRefused : Case
 caseSameRefused = caseStill (made (1 ∷ 3 ∷ []) two 0 0 0)
-    (same-16 0 0x00 0 0 (zeros 512) gives refused 2 0x05 0x24 0x00
-    ∷ same-16 0 0x00 9 129 [] gives refused 2 0x05 0x24 0x00
-    ∷ same-16 0 0x20 0 1 (zeros 512) gives refused 2 0x05 0x24 0x00
-    ∷ same-16 0 0x80 0 1 (zeros 512) gives refused 2 0x05 0x24 0x00
-    ∷ same-16 0 0x10 0 1 (zeros 512) gives refused 2 0x05 0x24 0x00
-    ∷ same-16 0 0x18 0 1 (zeros 512) gives refused 2 0x05 0x24 0x00
+    (same-16 0 0x00 0 0 (zeros 512) gives wrongCount16
+    ∷ same-16 0 0x00 9 129 [] gives wrongCount16
+    ∷ same-16 0 0x20 0 1 (zeros 512) gives wrongProtection
+    ∷ same-16 0 0x80 0 1 (zeros 512) gives wrongProtection
+    ∷ same-16 0 0x10 0 1 (zeros 512) gives wrongSameAnchor
+    ∷ same-16 0 0x18 0 1 (zeros 512) gives wrongSameAnchor
     ∷ same-16 0 0x00 8 1 [] gives refused 3 0x05 0x21 0x00
     ∷ same-16 0 0x09 1 8 [] gives refused 3 0x05 0x21 0x00
     ∷ same-16 0 0x00 0xFFFF_FFFF_FFFF_FFFF 2 (zeros 512) gives refused 3 0x05 0x21 0x00
@@ -64,8 +65,8 @@ caseSameRefused = caseStill (made (1 ∷ 3 ∷ []) two 0 0 0)
     ∷ same-16 0 0x08 0 8 (zeros 511) gives no-status 12
     ∷ same-16 0 0x00 1 1 (zeros 512) gives refused 8 0x07 0x27 0x07
     ∷ same-16 0 0x01 1 1 [] gives refused 8 0x07 0x27 0x07
-    ∷ call 0 (0x9E ∷ 0x12 ∷ (zeros 13 ++ (0x04 ∷ []))) [] gives refused 2 0x05 0x24 0x00
-    ∷ call 0 (0x93 ∷ 0x01 ∷ (zeros 11 ++ (0x01 ∷ 0x00 ∷ 0x04 ∷ []))) [] gives refused 2 0x05 0x24 0x00 ∷ [])
+    ∷ call 0 (0x9E ∷ 0x12 ∷ (zeros 13 ++ (0x04 ∷ []))) [] gives wrongNaca16
+    ∷ call 0 (0x93 ∷ 0x01 ∷ (zeros 11 ++ (0x01 ∷ 0x00 ∷ 0x04 ∷ []))) [] gives wrongNaca16 ∷ [])
 
 -- blocks 2 and 7 are mapped: from each kind of start, cut by the allocation length, "3 for a start at or past capacity, 12"; the upper bits of
 -- byte 1 and byte 14 are ignored, other actions are not
@@ -84,7 +85,7 @@ caseStatus = caseStill (made (8 ∷ 3 ∷ []) two 0 0 0)
     ∷ status-lent 72 0 0 0xFFFF_FFFF gives good (told-head 68 ++ (told-run 0 2 1 ++ (told-run 2 1 0 ++ (told-run 3 4 1 ++ told-run 7 1 0))))
     ∷ status-lent 24 0 0 24 gives good (told-head 68 ++ told-run 0 2 1)
     ∷ lent 100 20 0 (0x9E ∷ 0xF2 ∷ (bytes 8 7 ++ (bytes 4 100 ++ (0xFF ∷ 0 ∷ [])))) [] gives good (told-head 20 ++ told-run 7 1 0)
-    ∷ lent 100 20 0 (0x9E ∷ 0x13 ∷ (bytes 8 7 ++ (bytes 4 100 ++ zeros 2))) [] gives refused 2 0x05 0x24 0x00 ∷ [])
+    ∷ lent 100 20 0 (0x9E ∷ 0x13 ∷ (bytes 8 7 ++ (bytes 4 100 ++ zeros 2))) [] gives wrongAction ∷ [])
 
 -- "Conflicts: as WRITE and as READ", under exclusive access: before 3 and 12, for the outsider and not for the holder
 unfoldable pub caseGuarded : Case

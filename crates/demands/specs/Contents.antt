@@ -1,15 +1,17 @@
 -- Words for what a store holds and for the calls that move it: used by the laws of the commands on the blocks.
 -- Assumes nothing.
 use mathlib.Core.Path.{_≡_}
+use mathlib.Core.Logic.{_≢_}
 use mathlib.Core.Bool.{Bool, true, false, _&&_, _||_}
 use mathlib.Core.List.{List, [], _∷_, _++_}
-use Prim.Native.Nat.{ℕ, zero, suc, _+_, _-_, _≤_, _<_}
-use lib.Dec.{T, leb, ltb}
+use Prim.Native.Nat.{ℕ, zero, suc, _+_, _-_, _/_, _%_, _≤_, _<_}
+use lib.Dec.{T, eqb, leb, ltb}
 use lib.ListN.{length}
 use Rattle.fields.specs.Bytes.{zeros}
 use Rattle.fields.specs.Field.{byte, bit, bytes}
 use Rattle.answers.specs.declared.Answer.{Answer}
 use Rattle.answers.specs.declared.Answer.the-variants.{Good}
+use Rattle.answers.specs.Answers.{numberOf}
 use Rattle.answers.specs.Order.{first}
 use Rattle.pool.specs.Pool.{Pool, free, unmapped, readBlocks, unmapBlocks}
 use Rattle.pool.specs.Alike.{Alike}
@@ -25,7 +27,7 @@ use Rattle.forms.specs.declared.Request.{Request}
 use Rattle.forms.specs.Forms.{entryOf, asks, askedOf, countIn, listLengthIn}
 use Rattle.forms.specs.Tests.{codeRows, lengthRows, fieldRows}
 use Rattle.store.specs.declared.Unit.{Unit}
-use Rattle.store.specs.Store.{Store, Call, usable}
+use Rattle.store.specs.Store.{Store, Call, Result, usable}
 use Rattle.store.specs.Conflict.{conflict}
 use Rattle.store.specs.Step.{callRows, step}
 
@@ -116,12 +118,18 @@ pub record SaysSame {m : Move} {c d : Call} (a : Asks m c) (b : Asks m d) : Type
   pub range : SameRange (a .request) (b .request)
   pub first-long : length (c .cdb) ≡ longOf (entryOf (c .cdb))
   pub second-long : length (d .cdb) ≡ longOf (entryOf (d .cdb))
-  pub flags : leb 32 (byte 1 (c .cdb)) ≡ leb 32 (byte 1 (d .cdb))
+  pub flags : eqb (byte 1 (c .cdb) / 32 % 8) 0 ≡ eqb (byte 1 (d .cdb) / 32 % 8) 0
   pub naca : bit 2 (control c) ≡ bit 2 (control d)
   pub nexus : c .nexus ≡ d .nexus
   pub dataOut : c .dataOut ≡ d .dataOut
   pub dataIn : c .dataIn ≡ d .dataIn
   pub sense : c .sense ≡ d .sense
+
+-- results that are the same but for the place of a wrong field, which Q-4 has told and each form has elsewhere: the same number, and where it is not 2
+-- all that is seen, and the store. A 2 leaves the store and data-in as they were
+pub record SameButPlace (x y : Result) : Type 0 where
+  pub number : numberOf (x .seen .answer) ≡ numberOf (y .seen .answer)
+  pub same : numberOf (x .seen .answer) ≢ 2 → x ≡ y
 
 -- a CDB of a READ or WRITE, over the widths of its fields: address and count, with `gap` bytes between and `rest` behind
 unfoldable pub transferCdb : ℕ → ℕ → ℕ → ℕ → ℕ → ℕ → ℕ → List ℕ

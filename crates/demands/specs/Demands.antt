@@ -23,7 +23,7 @@ use Rattle.store.specs.Fresh.{freshStore}
 use Rattle.store.specs.Step.{step}
 use Rattle.demands.specs.History.{Event, call, Machine, Build, after, machine, isOut, isShutOut, isSomebody, seenAll, watchedOn, heardOn, replay, watched, heard}
 use Rattle.demands.specs.Checker.{allPassed}
-use Rattle.demands.specs.Contents.{Asks, IsGood, SameRange, Apart, descriptorsOf, names, Same, isTransfer, SaysSame}
+use Rattle.demands.specs.Contents.{Asks, IsGood, SameRange, Apart, descriptorsOf, names, Same, isTransfer, SaysSame, SameButPlace}
 use Rattle.demands.specs.Cases.{cases}
 use Rattle.demands.specs.Generation.{generation, raising}
 
@@ -78,7 +78,8 @@ pub record Storage : Type 0 where
   -- slots do not matter: stores that agree on the unit's record, on contents and on free slots answer alike for ever
   pub slots-hidden : (s t : Store) → T (usable s) → T (usable t) → Same s t → (es : List Event) → seenAll (machine step) s es ≡ seenAll (machine step) t es
   -- "The shared fact for 10 and 16 byte forms is proved once over field width."
-  pub forms-agree : (m : Move) → T (isTransfer m) → (s : Store) (c d : Call) (a : Asks m c) (b : Asks m d) → SaysSame a b → step s c ≡ step s d
+  pub forms-agree : (m : Move) → T (isTransfer m) → (s : Store) (c d : Call) (a : Asks m c) (b : Asks m d) → SaysSame a b
+      → SameButPlace (step s c) (step s d)
   -- "no two slots name one block": a map with a slot beyond the capacity or a clash is refused, and every usable store's passes its check
   pub clash-refused : (s : Store) (c : Call) → checked (s .unit .capacity) (s .pool .owners) ≢ Valid → step s c .seen .answer ≡ Unusable
   pub usable-checked : (s : Store) → T (usable s) → checked (s .unit .capacity) (s .pool .owners) ≡ Valid

@@ -21,4 +21,6 @@ pub mod WriteSame
 pub mod MapTold
 pub mod Limits
 pub mod WrongLimits
+pub mod Pointed
+pub mod WrongPointers
 pub mod Proved

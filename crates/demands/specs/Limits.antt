@@ -11,7 +11,7 @@ use lib.Dec.{T, eqb, leb}
 use lib.ListN.{length, take, drop}
 use Rattle.fields.specs.Bytes.{part, zeros}
 use Rattle.fields.specs.Field.{field, byte, bit}
-use Rattle.answers.specs.Answers.{notListed, invalidField, listField}
+use Rattle.answers.specs.Answers.{numberOf, notListed}
 use Rattle.pool.specs.Pool.{mapped}
 use Rattle.rights.specs.Rights.{isOneOf}
 use Rattle.descriptors.specs.Descriptors.{considered}
@@ -142,8 +142,8 @@ ZerosRead f = (s : Store) (c : Call) (a : Asks Read c) → GoodBy f s c → (i :
 
 -- ANC_SUP: ANCHOR is refused
 pub record AnchorRefused (f : Build) : Type 0 where
-  pub unmap : (s : Store) (c : Call) → Asks Unmap c → Fielded s c → T (bit 0 (byte 1 (c .cdb))) → f s c .seen .answer ≡ invalidField
-  pub same : (s : Store) (c : Call) → Asks WriteSame c → Fielded s c → T (bit 4 (byte 1 (c .cdb))) → f s c .seen .answer ≡ invalidField
+  pub unmap : (s : Store) (c : Call) → Asks Unmap c → Fielded s c → T (bit 0 (byte 1 (c .cdb))) → numberOf (f s c .seen .answer) ≡ 2
+  pub same : (s : Store) (c : Call) → Asks WriteSame c → Fielded s c → T (bit 4 (byte 1 (c .cdb))) → numberOf (f s c .seen .answer) ≡ 2
 
 -- a command of this code is not served
 abbrev pub Unserved : Build → ℕ → Type 0
@@ -158,21 +158,21 @@ pub record Limits (f : Build) : Type 0 where
   -- each page says which it is; page 00h lists exactly the pages that are served, and no other passes
   pub named : (bs : List ℕ) (code : ℕ) → Reads f code bs → byte 1 bs ≡ code
   pub unlisted : (bs : List ℕ) → Reads f 0x00 bs → (s : Store) (c : Call) (code : ℕ) → AsksPage code c → Fielded s c
-      → f s c .seen .answer ≡ invalidField ↔ T (not (isOneOf code (pageCodes bs)))
+      → numberOf (f s c .seen .answer) ≡ 2 ↔ T (not (isOneOf code (pageCodes bs)))
   pub served : (bs : List ℕ) → Reads f 0x00 bs → (s : Store) (c : Call) (code : ℕ) → AsksPage code c → Fielded s c → T (isOneOf code (pageCodes bs))
       → field 3 2 (c .cdb) ≤ length (c .dataIn) → GoodBy f s c
   -- a READ or WRITE, in each of its forms, is refused for its count exactly where that is above the maximum transfer length
   pub transfers : (bs : List ℕ) → Reads f 0xB0 bs → (m : Move) → T (isTransfer m) → (s : Store) (c : Call) (a : Asks m c) → Fielded s c → Unprotected c
-      → f s c .seen .answer ≡ invalidField ↔ transferLength bs < countIn (a .request)
+      → numberOf (f s c .seen .answer) ≡ 2 ↔ transferLength bs < countIn (a .request)
   -- a WRITE SAME of some blocks, where it is above the maximum write same length; of no block, exactly as WSNZ says
   pub same : (bs : List ℕ) → Reads f 0xB0 bs → (s : Store) (c : Call) (a : Asks WriteSame c) → Fielded s c → Unprotected c
       → bit 4 (byte 1 (c .cdb)) ≡ false → 1 ≤ countIn (a .request)
-      → f s c .seen .answer ≡ invalidField ↔ writeSameLength bs < countIn (a .request)
+      → numberOf (f s c .seen .answer) ≡ 2 ↔ writeSameLength bs < countIn (a .request)
   pub same-none : (bs : List ℕ) → Reads f 0xB0 bs → (s : Store) (c : Call) (a : Asks WriteSame c) → Fielded s c → Unprotected c
-      → bit 4 (byte 1 (c .cdb)) ≡ false → countIn (a .request) ≡ 0 → f s c .seen .answer ≡ invalidField ↔ T (wsnz bs)
+      → bit 4 (byte 1 (c .cdb)) ≡ false → countIn (a .request) ≡ 0 → numberOf (f s c .seen .answer) ≡ 2 ↔ T (wsnz bs)
   -- an UNMAP is refused for the number of its descriptors exactly where there are more than published
   pub descriptors : (bs : List ℕ) → Reads f 0xB0 bs → (s : Store) (c : Call) (a : Asks Unmap c) → Reaches s a → ListThere a
-      → f s c .seen .answer ≡ listField ↔ descriptorCount bs < descriptorsIn a
+      → numberOf (f s c .seen .answer) ≡ 5 ↔ descriptorCount bs < descriptorsIn a
   -- and no count in them is refused for itself: it is GOOD exactly where each descriptor ends within the capacity; FFFF_FFFFh says that there is no limit
   pub counts : (bs : List ℕ) → Reads f 0xB0 bs → (s : Store) (c : Call) (a : Asks Unmap c) → Reaches s a → ListThere a
       → descriptorsIn a ≤ descriptorCount bs

@@ -20,6 +20,7 @@ use Rattle.demands.specs.Telling.{Telling}
 use Rattle.demands.specs.WriteSame.{WritesSame}
 use Rattle.demands.specs.MapTold.{OnePage, MapTold}
 use Rattle.demands.specs.Limits.{Limits}
+use Rattle.demands.specs.Pointed.{Pointed, PlacesTrue}
 use Rattle.demands.specs.FromFresh.{FromFresh}
 use Rattle.demands.specs.AtC.{Faithful, Demand1AtC, Demand3AtC}
 
@@ -27,7 +28,7 @@ pub record Proved : Type 0 where
   -- every call gets a listed answer, and a refusal changes nothing
   pub demand-1 : Demand1 step
   -- every answer and the whole state after it are what the rules say; and so it looks to those who write and read, who reserve, who take over, who ask,
-  -- who clear logs, who ask for the map, and who keep to the limits that they have read
+  -- who clear logs, who ask for the map, who keep to the limits that they have read, and who want to know which byte was wrong
   pub demand-2 : Demand2 step
   pub storage : Storage
   pub reservations : Reservations step
@@ -40,6 +41,8 @@ pub record Proved : Type 0 where
   pub map-told : MapTold step
   pub one-page : OnePage
   pub limits : Limits step
+  pub pointed : Pointed step
+  pub places-true : PlacesTrue
   -- step by step from a fresh store
   pub from-fresh : (capacity slots : ℕ) (medium : List ℕ) → T (capacityOk capacity) → T (slotsOk slots) → length medium ≡ blockBytes * slots
       → FromFresh (freshStore capacity slots medium)

@@ -21,7 +21,7 @@ use Rattle.rights.specs.declared.Parameters.{Parameters}
 use Rattle.rights.specs.declared.Decision.{Decision}
 use Rattle.rights.specs.Places.{known}
 use Rattle.rights.specs.Rights.{allHold}
-use Rattle.rights.specs.Actions.{flagRows, stranger, preempting, decided}
+use Rattle.rights.specs.Actions.{serviceKeyBits, flagRows, stranger, preempting, decided}
 use Rattle.forms.specs.declared.Tell.the-variants.{Keys, Reservation}
 use Rattle.forms.specs.declared.Move.{Move}
 use Rattle.forms.specs.declared.Command.the-variants.{Tells, Alters}
@@ -53,7 +53,7 @@ gaveKey s c = isRegistered s (c .nexus) && eqb (senderKey c) (keyIn s (c .nexus)
 
 -- "5 stays for a zero key with no reservation or types 1, 3, 5, 6"; the sender's own 10 comes before
 unfoldable pub zeroAnswer : Store → Call → Answer
-zeroAnswer s c = cond (gaveKey s c) (cond (allHold (typeIn s)) Good listField) Conflict
+zeroAnswer s c = cond (gaveKey s c) (cond (allHold (typeIn s)) Good (listField serviceKeyBits)) Conflict
 
 -- what READ KEYS tells where one key is left
 unfoldable pub oneKey : ℕ → ℕ → List ℕ
@@ -96,7 +96,7 @@ pub record ZeroKey (f : Build) : Type 0 where
 
 -- PREEMPT as 01 alone has it: "service action key 0 gives 5; a key nobody has gives 10."
 unfoldable pub formerRows : Rights → ℕ → Parameters → List Row
-formerRows r n o = Conflict if stranger r n o ∷ listField if eqb (o .service) 0 ∷ Conflict if not (known (o .service) (r .places)) ∷ []
+formerRows r n o = Conflict if stranger r n o ∷ listField serviceKeyBits if eqb (o .service) 0 ∷ Conflict if not (known (o .service) (r .places)) ∷ []
 
 unfoldable pub former : Rights → ℕ → Parameters → Decision
 former r n o =

@@ -8,6 +8,7 @@ use native.Mathlib.Omega.{arith}
 use lib.Dec.{T, ltb, ltb→lt, nltb→le}
 use borrow.Author.Tests.{lt-ltb, le-ltb, ltb-false}
 use Rattle.fields.specs.Field.{field}
+use Rattle.fields.specs.Bits.{numberIn}
 use Rattle.fields.proofs.Tests.{test, T-true, T-false}
 use lib.ListN.{length, length-map}
 use Rattle.pool.specs.Pool.{unmapOwners, freed}
@@ -22,11 +23,11 @@ use Rattle.descriptors.specs.Descriptors.{descriptorAt, considered, fail
 module _ (n : ℕ) (list : List ℕ) where
   -- in other words: a k-th descriptor is considered exactly if all its bytes lie within both lengths, the one that the list tells and the one that the CDB gives, which counts the 8 bytes before the first
   pub considered-whole : (k : ℕ) → 0 < k → k ≤ considered n list → (16 * k ≤ field 2 2 list) × (8 + 16 * k ≤ n)
-  unfolding considered
+  unfolding considered numberIn
   considered-whole k h c = (omega (arith, h, c), omega (arith, h, c))
 
   pub whole-considered : (k : ℕ) → 16 * k ≤ field 2 2 list → 8 + 16 * k ≤ n → k ≤ considered n list
-  unfolding considered
+  unfolding considered numberIn
   whole-considered k told given = omega (arith, told, given)
 
 -- ---- which fail

@@ -5,6 +5,7 @@ use mathlib.Core.List.{List}
 use Prim.Native.Nat.{ℕ, zero, suc, _+_, _-_, _/_, min}
 use lib.Dec.{ltb}
 use Rattle.fields.specs.Field.{field}
+use Rattle.fields.specs.Bits.{Bits, whole, numberIn}
 use Rattle.pool.specs.Pool.{unmapOwners}
 use Rattle.descriptors.specs.declared.Descriptor.{Descriptor}
 use Rattle.descriptors.specs.declared.Failing.{Failing}
@@ -14,9 +15,13 @@ use Rattle.descriptors.specs.declared.Failing.the-variants.{At, Nothing}
 unfoldable pub descriptorAt : List ℕ → ℕ → Descriptor
 descriptorAt list at = record { address = record { 0 = field at 8 list }; count = field (at + 8) 4 list }
 
--- "block descriptor data length in 2-3 …. Considered are floor(min(that length, list length - 8) / 16); an incomplete last one is ignored."
+-- "block descriptor data length in 2-3"
+abbrev pub dataLengthBits : Bits
+dataLengthBits = whole 2 2
+
+-- "Considered are floor(min(that length, list length - 8) / 16); an incomplete last one is ignored."
 unfoldable pub considered : ℕ → List ℕ → ℕ
-considered listLength list = min (field 2 2 list) (listLength - 8) / 16
+considered listLength list = min (numberIn dataLengthBits list) (listLength - 8) / 16
 
 -- "block address + count > capacity"
 unfoldable pub fails : ℕ → Descriptor → Bool

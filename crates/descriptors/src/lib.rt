@@ -10,6 +10,9 @@ use pool::Lba;
 // The most descriptors that one list may have.
 pub const MOST_DESCRIPTORS: usize = 16;
 
+// Where the list has its block descriptor data length.
+pub const DATA_LENGTH_BYTE: u8 = 2;
+
 // A range of blocks to unmap.
 pub struct Descriptor {
     pub address: Lba,
@@ -84,7 +87,7 @@ pub fn considered(length: u64, list: &[u8]) -> usize
     if length < 8 {
         return 0;
     }
-    let told = fields::numbers::number(list, 2, 2);
+    let told = fields::numbers::number(list, DATA_LENGTH_BYTE as usize, 2);
     let given = length - 8;
     if told < given {
         (told / 16) as usize

@@ -3,14 +3,14 @@
 use mathlib.Core.Path.{_≡_, refl, sym, ap, _∙_, subst}
 use mathlib.Core.Bool.{Bool, true, false, not, _&&_, _||_, true≢false}
 use mathlib.Core.List.{List, [], _∷_}
-use Prim.Native.Nat.{ℕ, zero, suc, _-_, _%_, _≤_}
+use Prim.Native.Nat.{ℕ, zero, suc, _≤_}
 use native.Mathlib.Omega.{arith}
 use borrow.Author.Tests.{ltb-false}
 use lib.Dec.{T, eqb, eqb→eq}
-use Rattle.fields.specs.Field.{byte, bit}
+use Rattle.fields.specs.Field.{byte}
+use Rattle.fields.specs.Bits.{numberIn}
 use Rattle.fields.proofs.Tests.{and-l, and-r, nor-r, or-other, not-not, not-not-intro, test, by-equal, false→T, T-false}
 use Rattle.answers.specs.declared.Answer.the-variants.{Good}
-use Rattle.answers.specs.Answers.{invalidField}
 use Rattle.answers.specs.Order.{_if_, first, refuses}
 use Rattle.answers.proofs.OrderLaws.{row-fails, rows-after}
 use Rattle.pool.specs.Bounds.{mostTransfer}
@@ -28,8 +28,8 @@ use Rattle.forms.specs.declared.Service.the-variants.{Served, Other}
 use Rattle.forms.specs.declared.Entry.{Entry}
 use Rattle.forms.specs.declared.Entry.the-variants.{Listed, Unlisted}
 use Rattle.forms.specs.declared.Request.{Request}
-use Rattle.forms.specs.Forms.{lines, listed, entryFor, entryOf, action, number, requestBy, Asked, nothing, asks, askedBy, askedIn, askedOf}
-use Rattle.forms.specs.Tests.{wrong, testRows, serviceRows, codeFieldRows, fieldRows}
+use Rattle.forms.specs.Forms.{lines, listed, entryFor, entryOf, action, number, kindBits, requestBy, Asked, nothing, asks, askedBy, askedIn, askedOf}
+use Rattle.forms.specs.Tests.{Check, wrongIn, checkRows, checkOf, testChecks, controlCheck, serviceChecks, codeChecks, checksOf, fieldRows}
 use Rattle.forms.proofs.Table.{all, obeys, looked-up, serviceRule, rowRule, isNothing, longRule, long-rule}
 
 -- ---- the row by which a request is read
@@ -174,7 +174,7 @@ module _ (cdb : List ℕ) (r : Request) (w : Row (entryOf cdb) cdb r) where
   unfolding requestBy
   row-size = ap (λ (q : Request). q .size) (w .request)
 
-  row-kind : byte 2 cdb % 16 ≡ r .kind
+  row-kind : numberIn kindBits cdb ≡ r .kind
   unfolding requestBy
   row-kind = ap (λ (q : Request). q .kind) (w .request)
 
@@ -190,7 +190,11 @@ module _ (cdb : List ℕ) (r : Request) (w : Row (entryOf cdb) cdb r) where
       or-other (not (P (w .form .command))) (Q (w .form)) (not-not-intro (P (w .form .command)) (rw row-command h))
       (subst (λ (e : Entry). T (rowRule (ofThese P Q) e)) (w .entry) t)
 
-  -- all that can be wrong with the fields of a row with these tests
+  -- the control byte, and a row with these tests
+  abbrev pub fieldChecks : Test → Test → Test → List Check
+  fieldChecks x y z = controlCheck (w .long) ∷ checkOf x (w .form .size) ∷ checkOf y (w .form .size) ∷ checkOf z (w .form .size) ∷ []
+
+  -- all that can be wrong with the fields of such a row
   module _ (x y z : Test) (t : T (testsAre x y z (w .form))) where
     tests-first : w .form .first ≡ x
     unfolding testsAre
@@ -206,19 +210,15 @@ module _ (cdb : List ℕ) (r : Request) (w : Row (entryOf cdb) cdb r) where
     tests-third : w .form .third ≡ z
     tests-third = same-test _ _ (and-r (sameTest (w .form .second) y) (sameTest (w .form .third) z) tests-others)
 
-    tests-fields : fieldRows (entryOf cdb) cdb
-        ≡ invalidField if bit 2 (byte (w .long - 1) cdb) ∷ invalidField if wrong x (r .size) cdb ∷ invalidField if wrong y (r .size) cdb
-        ∷ invalidField if wrong z (r .size) cdb ∷ []
-    unfolding fieldRows codeFieldRows serviceRows testRows
-    tests-fields = ap (λ (e : Entry). fieldRows e cdb) (w .entry) ∙ rw (tests-first, tests-second, tests-third, row-size)
+    tests-checks : checksOf (entryOf cdb) ≡ fieldChecks x y z
+    unfolding checksOf codeChecks serviceChecks testChecks
+    tests-checks = ap checksOf (w .entry) ∙ rw (tests-first, tests-second, tests-third)
 
   -- with those of a command on the blocks
-  pub move-fields : (m : Move) → r .command ≡ Moves m → fieldRows (entryOf cdb) cdb
-      ≡ invalidField if bit 2 (byte (w .long - 1) cdb) ∷ invalidField if wrong (testsOf m .0) (r .size) cdb
-      ∷ invalidField if wrong (testsOf m .1) (r .size) cdb ∷ invalidField if wrong (testsOf m .2) (r .size) cdb ∷ []
+  pub move-checks : (m : Move) → r .command ≡ Moves m → checksOf (entryOf cdb) ≡ fieldChecks (testsOf m .0) (testsOf m .1) (testsOf m .2)
   unfolding rowRule serviceRule commandTests
-  move-fields m e =
-      tests-fields (testsOf m .0) (testsOf m .1) (testsOf m .2)
+  move-checks m e =
+      tests-checks (testsOf m .0) (testsOf m .1) (testsOf m .2)
       (subst (λ (k : Command). T (commandTests k (w .form))) (row-command ∙ e)
       (subst (λ (n : Entry). T (rowRule (λ f. commandTests (f .command) f) n)) (w .entry) (move-rule cdb)))
 
@@ -229,29 +229,30 @@ module _ (cdb : List ℕ) (r : Request) (w : Row (entryOf cdb) cdb r) where
   -- ---- where the fields are right
 
   module _ (good : first (fieldRows (entryOf cdb) cdb) ≡ Good) where
-    row-right : first (testRows (w .form) cdb) ≡ Good
-    unfolding fieldRows codeFieldRows serviceRows refuses
-    row-right = rows-after invalidField _ _ tt (subst (λ (e : Entry). first (fieldRows e cdb) ≡ Good) (w .entry) good)
+    row-right : first (checkRows (testChecks (w .form)) cdb) ≡ Good
+    unfolding fieldRows checksOf codeChecks serviceChecks checkRows refuses
+    row-right = rows-after _ _ _ tt (subst (λ (e : Entry). first (fieldRows e cdb) ≡ Good) (w .entry) good)
 
-    second-right : wrong (w .form .second) (r .size) cdb ≡ false
-    unfolding testRows refuses
-    second-right = rw (← row-size) (row-fails invalidField _ _ tt (rows-after invalidField _ _ tt row-right))
+    second-right : wrongIn (checkOf (w .form .second) (w .form .size)) cdb ≡ false
+    unfolding testChecks checkRows refuses
+    second-right = row-fails _ _ _ tt (rows-after _ _ _ tt row-right)
 
-    third-right : wrong (w .form .third) (r .size) cdb ≡ false
-    unfolding testRows refuses
-    third-right = rw (← row-size) (row-fails invalidField _ _ tt (rows-after invalidField _ _ tt (rows-after invalidField _ _ tt row-right)))
+    third-right : wrongIn (checkOf (w .form .third) (w .form .size)) cdb ≡ false
+    unfolding testChecks checkRows refuses
+    third-right = row-fails _ _ _ tt (rows-after _ _ _ tt (rows-after _ _ _ tt row-right))
 
     row-fits : T (isCounted (r .command)) → r .size ≤ mostTransfer
-    unfolding countTests wrong
+    unfolding countTests wrongIn checkOf number
     row-fits h =
-        test (sameTest (w .form .second) Count)
+        rw (← row-size)
+        (test (sameTest (w .form .second) Count)
         (λ t. ltb-false _ _ (rw (same-test _ _ t) at second-right))
-        (λ t. ltb-false _ _ (T-false _ (nor-r (eqb (r .size) 0) _ (false→T _
-        (rw (same-test _ _ (or-other (sameTest (w .form .second) Count) _ t (row-obeys isCounted countTests (count-rule cdb) h))) at third-right)))))
+        (λ t. ltb-false _ _ (T-false _ (nor-r (eqb (number (w .form .size) cdb) 0) _ (false→T _
+        (rw (same-test _ _ (or-other (sameTest (w .form .second) Count) _ t (row-obeys isCounted countTests (count-rule cdb) h))) at third-right))))))
 
     row-typed : T (isMaker (r .command)) → T (isType (r .kind))
-    unfolding wrong
-    row-typed h = rw (← row-kind) (not-not (isType (byte 2 cdb % 16)) (false→T _ (rw (maker-second h) at second-right)))
+    unfolding wrongIn checkOf
+    row-typed h = rw (← row-kind) (not-not (isType (numberIn kindBits cdb)) (false→T _ (rw (maker-second h) at second-right)))
 
 -- ---- of what a CDB asks for
 

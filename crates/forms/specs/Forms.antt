@@ -4,7 +4,8 @@ use mathlib.Core.Bool.{Bool, true, false, not}
 use mathlib.Core.List.{List, [], _∷_}
 use Prim.Native.Nat.{ℕ, _%_}
 use lib.Dec.{eqb}
-use Rattle.fields.specs.Field.{field, byte, bit}
+use Rattle.fields.specs.Field.{byte, bit}
+use Rattle.fields.specs.Bits.{Bits, within, whole, numberIn}
 use Rattle.rights.specs.declared.Action.{Action}
 use Rattle.rights.specs.declared.Action.the-variants.{Register, Reserve, Release, Clear, Preempt, RegisterIgnoring}
 use Rattle.forms.specs.declared.Tell.the-variants.{Ready, Inquiry, VitalData, Capacity10, Capacity16, Keys, Reservation}
@@ -46,8 +47,11 @@ eight at = At (Eight at)
 -- ---- the lines of the table
 
 -- "action in byte 1 bits 4-0"
+abbrev pub actionBits : Bits
+actionBits = within 1 4 5
+
 unfoldable pub action : List ℕ → ℕ
-action cdb = byte 1 cdb % 32
+action cdb = numberIn actionBits cdb
 
 -- the service actions that a line takes; INQUIRY has none, and is told apart by bit 0 of the same byte
 pub data Actions : Type 0 where
@@ -125,24 +129,40 @@ entryOf cdb = entryFor (byte 0 cdb) (action cdb)
 
 -- ---- the request of a CDB by its row
 
+-- the bytes of a number
+unfoldable pub bytesOf : Field → Bits
+bytesOf (Two at) = whole at 2
+bytesOf (Four at) = whole at 4
+bytesOf (Eight at) = whole at 8
+
+-- where there is none, no byte
+unfoldable pub spanBits : Span → Bits
+spanBits Absent = whole 0 0
+spanBits (At f) = bytesOf f
+
 -- the number that stands there; 0 where there is none
-unfoldable pub fieldNumber : Field → List ℕ → ℕ
-fieldNumber (Two at) cdb = field at 2 cdb
-fieldNumber (Four at) cdb = field at 4 cdb
-fieldNumber (Eight at) cdb = field at 8 cdb
-
 unfoldable pub number : Span → List ℕ → ℕ
-number Absent cdb = 0
-number (At f) cdb = fieldNumber f cdb
+number span cdb = numberIn (spanBits span) cdb
 
--- "Byte 2: scope high half, type low half"; INQUIRY: "byte 2"; Q-1: "byte 1 bits … 3 UNMAP, 0 NDOB"
+-- INQUIRY: "byte 2"
+abbrev pub pageBits : Bits
+pageBits = whole 2 1
+
+-- "Byte 2: scope high half, type low half"
+abbrev pub scopeBits : Bits
+scopeBits = within 2 7 4
+
+abbrev pub kindBits : Bits
+kindBits = within 2 3 4
+
+-- Q-1: "byte 1 bits … 3 UNMAP, 0 NDOB"
 unfoldable pub requestBy : Form → List ℕ → Request
 requestBy f cdb = record {
   command = f .command;
   address = record { 0 = number (f .address) cdb };
   size = number (f .size) cdb;
-  kind = byte 2 cdb % 16;
-  page = byte 2 cdb;
+  kind = numberIn kindBits cdb;
+  page = numberIn pageBits cdb;
   options = byte 1 cdb;
 }
 

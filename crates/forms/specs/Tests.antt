@@ -2,10 +2,10 @@
 -- Assumes nothing.
 use mathlib.Core.Bool.{Bool, true, false, not, _||_}
 use mathlib.Core.List.{List, [], _∷_}
-use Prim.Native.Nat.{ℕ, _-_, _%_}
-use lib.Dec.{eqb, leb, ltb}
+use Prim.Native.Nat.{ℕ, _-_}
+use lib.Dec.{eqb, ltb}
 use lib.ListN.{length}
-use Rattle.fields.specs.Field.{byte, bit}
+use Rattle.fields.specs.Bits.{Bits, within, whole, numberIn}
 use Rattle.answers.specs.declared.Answer.the-variants.{Unusable}
 use Rattle.answers.specs.Answers.{notListed, invalidField}
 use Rattle.answers.specs.Order.{Row, _if_}
@@ -13,13 +13,14 @@ use Rattle.pool.specs.Bounds.{mostTransfer}
 use Rattle.rights.specs.Rights.{isOneOf, isType}
 use Rattle.forms.specs.declared.Test.{Test}
 use Rattle.forms.specs.declared.Test.the-variants.{Nothing, Page, VitalPage, Protection, Count, Anchor, SameAnchor, SameCount, Scope, Kind}
+use Rattle.forms.specs.declared.Span.{Span}
 use Rattle.forms.specs.declared.Form.{Form}
 use Rattle.forms.specs.declared.Service.{Service}
 use Rattle.forms.specs.declared.Service.the-variants.{Served, Other}
 use Rattle.forms.specs.declared.Code.{Code}
 use Rattle.forms.specs.declared.Entry.{Entry}
 use Rattle.forms.specs.declared.Entry.the-variants.{Listed, Unlisted}
-use Rattle.forms.specs.Forms.{number}
+use Rattle.forms.specs.Forms.{actionBits, spanBits, pageBits, scopeBits, kindBits}
 
 -- ---- 1
 
@@ -44,41 +45,67 @@ lengthRows Unlisted cdb = []
 unfoldable pub pages : List ℕ
 pages = 0x00 ∷ 0xB0 ∷ 0xB2 ∷ []
 
--- is this field of a CDB wrong, where n is its count, allocation length or list length
-unfoldable pub wrong : Test → ℕ → List ℕ → Bool
-wrong Nothing n cdb = false
+-- a field that can be wrong: where it stands, and which numbers in it are wrong; nothing else of the CDB counts
+pub record Check : Type 0 where
+  pub bits : Bits
+  pub wrong : ℕ → Bool
+
+abbrev pub check : Bits → (ℕ → Bool) → Check
+check bits wrong = record { bits = bits; wrong = wrong }
+
+unfoldable pub wrongIn : Check → List ℕ → Bool
+wrongIn k cdb = k .wrong (numberIn (k .bits) cdb)
+
+-- Q-4: "The field is the first one wrong in 01's order": a row for each, which names it
+unfoldable pub checkRows : List Check → List ℕ → List Row
+checkRows [] cdb = []
+checkRows (k ∷ ks) cdb = invalidField (k .bits) if wrongIn k cdb ∷ checkRows ks cdb
+
+-- a flag that is set
+unfoldable pub isSet : ℕ → Bool
+isSet n = eqb n 1
+
+unfoldable pub notZero : ℕ → Bool
+notZero n = not (eqb n 0)
+
+-- what each test looks at, where `size` is the count, allocation length or list length
+unfoldable pub checkOf : Test → Span → Check
+-- no byte, never wrong
+checkOf Nothing size = check (whole 0 0) (λ n. false)
 -- INQUIRY: "… or byte 2 not 0: 2"; by Q-2 "bit 0 of byte 1 set gives 2 only with an unlisted page"
-wrong Page n cdb = not (eqb (byte 2 cdb) 0)
-wrong VitalPage n cdb = not (isOneOf (byte 2 cdb) pages)
+checkOf Page size = check pageBits notZero
+checkOf VitalPage size = check pageBits (λ n. not (isOneOf n pages))
 -- READ and WRITE: "Byte 1 bits 7-5 not 0, or count above 128: 2."
-wrong Protection n cdb = leb 32 (byte 1 cdb)
-wrong Count n cdb = ltb mostTransfer n
+checkOf Protection size = check (within 1 7 3) notZero
+checkOf Count size = check (spanBits size) (λ n. ltb mostTransfer n)
 -- UNMAP: "byte 1 bit 0 (ANCHOR) set: 2"
-wrong Anchor n cdb = bit 0 (byte 1 cdb)
+checkOf Anchor size = check (within 1 0 1) isSet
 -- WRITE SAME, by Q-1: "Count 0 or above 128, WRPROTECT or ANCHOR: 2."; its WRPROTECT is where READ and WRITE have theirs
-wrong SameAnchor n cdb = bit 4 (byte 1 cdb)
-wrong SameCount n cdb = eqb n 0 || ltb mostTransfer n
+checkOf SameAnchor size = check (within 1 4 1) isSet
+checkOf SameCount size = check (spanBits size) (λ n. eqb n 0 || ltb mostTransfer n)
 -- "for 1, 2, 4 (4 always, stricter than SPC) a scope not 0 or a type outside the six: 2"
-wrong Scope n cdb = leb 16 (byte 2 cdb)
-wrong Kind n cdb = not (isType (byte 2 cdb % 16))
+checkOf Scope size = check scopeBits notZero
+checkOf Kind size = check kindBits (λ n. not (isType n))
 
--- a row for each field that can be wrong
-unfoldable pub testRows : Form → List ℕ → List Row
-testRows f cdb =
-    invalidField if wrong (f .first) (number (f .size) cdb) cdb
-    ∷ invalidField if wrong (f .second) (number (f .size) cdb) cdb
-    ∷ invalidField if wrong (f .third) (number (f .size) cdb) cdb
-    ∷ []
+-- the fields of a row; Q-4: "then by lowest byte, then highest bit"
+unfoldable pub testChecks : Form → List Check
+testChecks f = checkOf (f .first) (f .size) ∷ checkOf (f .second) (f .size) ∷ checkOf (f .third) (f .size) ∷ []
 
--- "others 2"
-unfoldable pub serviceRows : Service → List ℕ → List Row
-serviceRows (Served f) cdb = testRows f cdb
-serviceRows Other cdb = invalidField if true ∷ []
+-- "others 2": an action that is not listed, whatever else the CDB says
+unfoldable pub serviceChecks : Service → List Check
+serviceChecks (Served f) = testChecks f
+serviceChecks Other = check actionBits (λ n. true) ∷ []
 
 -- "control byte bit 2 (NACA) set, for all commands, and the fields below"; the control byte is the CDB's last by its code's length
-unfoldable pub codeFieldRows : Code → List ℕ → List Row
-codeFieldRows code cdb = invalidField if bit 2 (byte (code .long - 1) cdb) ∷ serviceRows (code .service) cdb
+abbrev pub controlCheck : ℕ → Check
+controlCheck long = check (within (long - 1) 2 1) isSet
+
+unfoldable pub codeChecks : Code → List Check
+codeChecks code = controlCheck (code .long) ∷ serviceChecks (code .service)
+
+unfoldable pub checksOf : Entry → List Check
+checksOf (Listed code) = codeChecks code
+checksOf Unlisted = []
 
 unfoldable pub fieldRows : Entry → List ℕ → List Row
-fieldRows (Listed code) cdb = codeFieldRows code cdb
-fieldRows Unlisted cdb = []
+fieldRows e cdb = checkRows (checksOf e) cdb

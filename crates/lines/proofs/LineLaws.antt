@@ -49,10 +49,10 @@ module _ (returned n : ℕ) (l : List ℕ) (e : n ≡ min shownBytes returned) w
 refusal-most : (x : Refusal) → codesOf x .number ≤ 12
 unfolding codesOf
 refusal-most NotListed = omega arith
-refusal-most InvalidField = omega arith
+refusal-most (InvalidField at top n) = omega arith
 refusal-most OutOfRange = omega arith
 refusal-most ListLength = omega arith
-refusal-most ListField = omega arith
+refusal-most (ListField at top n) = omega arith
 refusal-most NoPlace = omega arith
 refusal-most OtherType = omega arith
 refusal-most NoRoom = omega arith

@@ -19,7 +19,7 @@ use Rattle.rights.specs.declared.Parameters.{Parameters}
 use Rattle.rights.specs.declared.Action.the-variants.{Preempt}
 use Rattle.rights.specs.Places.{unused, used, isOf, registered, keyOf, alone}
 use Rattle.rights.specs.Rights.{isType, oneHolds, allHold, holds, holderKey, placesApart, withPlaces, withReservation, withGeneration, held, raised}
-use Rattle.rights.specs.Actions.{actionRows, takingOver}
+use Rattle.rights.specs.Actions.{serviceKeyBits, actionRows, takingOver}
 use Rattle.rights.specs.Told.{keys, keysData, reservationData}
 use Rattle.rights.proofs.RightsLaws.{type-not-none}
 use Rattle.rights.proofs.Keeping.{isOf-used, isOf-nexus, apart-others, apart-rest, alone-own, type-one}
@@ -79,9 +79,9 @@ keys-own n (p ∷ ps) a t =
 -- ---- the answer to it
 
 -- "5 stays for a zero key with no reservation or types 1, 3, 5, 6"
-pub zero-own : (r : Rights) (n : ℕ) (o : Parameters) → o .service ≡ 0 → first (actionRows Preempt r n o) ≡ cond (allHold (r .kind)) Good listField
+pub zero-own : (r : Rights) (n : ℕ) (o : Parameters) → o .service ≡ 0 → first (actionRows Preempt r n o) ≡ cond (allHold (r .kind)) Good (listField serviceKeyBits)
 unfolding actionRows firstOf
-zero-own r n o z = rw z (by-test (allHold (r .kind)) (λ b. first (listField if not b ∷ Conflict if false ∷ []) ≡ cond b Good listField) (λ _. refl) (λ _. refl))
+zero-own r n o z = rw z (by-test (allHold (r .kind)) (λ b. first (listField serviceKeyBits if not b ∷ Conflict if false ∷ []) ≡ cond b Good (listField serviceKeyBits)) (λ _. refl) (λ _. refl))
 
 -- ---- the rights after it
 

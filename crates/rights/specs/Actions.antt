@@ -5,6 +5,7 @@ use mathlib.Core.List.{List, [], _∷_, _++_, map}
 use Prim.Native.Nat.{ℕ}
 use lib.Dec.{eqb}
 use Rattle.fields.specs.Field.{bit}
+use Rattle.fields.specs.Bits.{Bits, within, whole}
 use Rattle.answers.specs.declared.Answer.the-variants.{Conflict}
 use Rattle.answers.specs.Answers.{listField, noPlace, otherType}
 use Rattle.answers.specs.Order.{Row, _if_, first, ifGood}
@@ -18,9 +19,20 @@ use Rattle.rights.specs.Rights.{allHold, holds, held, holderKey, ended, 
 
 -- ---- refusals
 
+-- "List: key 0-7, service action key 8-15, byte 20 bits 3, 2, 0": what of it can be wrong
+abbrev pub serviceKeyBits : Bits
+serviceKeyBits = whole 8 8
+
+abbrev pub flagsByte : ℕ
+flagsByte = 20
+
+-- Q-4: "The field is the first one wrong …, then highest bit": a flag that is set names itself
+abbrev pub flagRow : ℕ → Parameters → Row
+flagRow k o = listField (within flagsByte k 1) if bit k (o .flags)
+
 -- a row for each flag that registering refuses
 unfoldable pub registerFlags : Parameters → List Row
-registerFlags o = listField if bit 3 (o .flags) ∷ listField if bit 2 (o .flags) ∷ listField if bit 0 (o .flags) ∷ []
+registerFlags o = flagRow 3 o ∷ flagRow 2 o ∷ flagRow 0 o ∷ []
 
 -- "byte 20 bits 3, 2, 0 any set in actions 0 and 6: 5"
 unfoldable pub flagRows : Action → Parameters → List Row
@@ -59,7 +71,7 @@ actionRows Release r n o = otherType if (holds r n && not (eqb (r .kind) (o .kin
 actionRows Clear r n o = []
 -- "service action key 0 gives 5; a key nobody has gives 10.", but by Q-3 "5 stays for a zero key with no reservation or types 1, 3, 5, 6"
 actionRows Preempt r n o =
-    listField if (eqb (o .service) 0 && not (allHold (r .kind)))
+    listField serviceKeyBits if (eqb (o .service) 0 && not (allHold (r .kind)))
     ∷ Conflict if (not (eqb (o .service) 0) && not (known (o .service) (r .places)))
     ∷ []
 actionRows RegisterIgnoring r n o = noPlace if crowded r n o ∷ []

@@ -8,6 +8,11 @@ pub const LAST_NEXUS: u64 = 15;
 // How many registration places there are.
 pub const REGISTRATION_PLACES: usize = 8;
 
+// Where the parameter list of PERSISTENT RESERVE OUT has the service action key, and where its flags.
+pub const SERVICE_KEY_BYTE: u8 = 8;
+
+pub const FLAGS_BYTE: u8 = 20;
+
 // A registration place; it is used exactly if its key is not 0.
 #[repr(C)]
 pub struct Place {

@@ -14,7 +14,7 @@ use Rattle.answers.specs.Order.{first, refuses}
 use Rattle.answers.proofs.OrderLaws.{row-pass, row-end, row-fails, rows-after}
 use Rattle.pool.specs.Bounds.{blockBytes}
 use Rattle.pool.specs.Pool.{free, unmapped, roomFor}
-use Rattle.descriptors.specs.Descriptors.{mostDescriptors, considered, someFails}
+use Rattle.descriptors.specs.Descriptors.{dataLengthBits, mostDescriptors, considered, someFails}
 use Rattle.store.specs.Same.{hasNoData, unmapsSame}
 use Rattle.store.specs.Move.{pastEnd, readRows, writeRows, sameRows, unmapRows, statusTold, statusRows}
 
@@ -73,10 +73,10 @@ unmap-passes capacity n dataOut = (
       let d′ = rows-after Short _ _ tt d in (
         row-fails listLength _ _ tt e,
         ltb-false _ _ (row-fails Short _ _ tt d),
-        ltb-false _ _ (row-fails listField _ _ tt d′),
-        row-fails outOfRange _ _ tt (rows-after listField _ _ tt d′),
+        ltb-false _ _ (row-fails (listField dataLengthBits) _ _ tt d′),
+        row-fails outOfRange _ _ tt (rows-after (listField dataLengthBits) _ _ tt d′),
       ),
-  λ h. row-pass listLength _ _ (h .0) ∙ row-pass Short _ _ (le-ltb _ _ (h .1)) ∙ row-pass listField _ _ (le-ltb _ _ (h .2))
+  λ h. row-pass listLength _ _ (h .0) ∙ row-pass Short _ _ (le-ltb _ _ (h .1)) ∙ row-pass (listField dataLengthBits) _ _ (le-ltb _ _ (h .2))
       ∙ row-pass outOfRange _ _ (h .3) ∙ row-end,
 )
 

@@ -11,7 +11,7 @@ use Rattle.answers.specs.Answers.{outOfRange, listLength, listField, noRoom}
 use Rattle.answers.specs.Order.{Row, _if_}
 use Rattle.pool.specs.Bounds.{blockBytes}
 use Rattle.pool.specs.Pool.{Pool, withOwners, readBlocks, writeBlocks, roomFor}
-use Rattle.descriptors.specs.Descriptors.{mostDescriptors, considered, someFails, unmapAll}
+use Rattle.descriptors.specs.Descriptors.{dataLengthBits, mostDescriptors, considered, someFails, unmapAll}
 use Rattle.runs.specs.Page.{statusData}
 use Rattle.forms.specs.declared.Move.{Move}
 use Rattle.forms.specs.declared.Move.the-variants.{Read, Write, WriteSame, Unmap, Status}
@@ -48,12 +48,12 @@ sameRows capacity owners address count options dataOut =
     ∷ noRoom if (not (unmapsSame options dataOut) && not (roomFor owners address count))
     ∷ []
 
--- of a parameter list of n bytes
+-- of a parameter list of n bytes; Q-4: "more than 16 descriptors points at list byte 2"
 unfoldable pub unmapRows : ℕ → ℕ → List ℕ → List Row
 unmapRows capacity n dataOut =
     listLength if (leb 1 n && leb n 7)
     ∷ Short if ltb (length dataOut) n
-    ∷ listField if ltb mostDescriptors (considered n dataOut)
+    ∷ listField dataLengthBits if ltb mostDescriptors (considered n dataOut)
     ∷ outOfRange if someFails capacity dataOut 8 (considered n dataOut)
     ∷ []
 

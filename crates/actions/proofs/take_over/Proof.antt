@@ -3,6 +3,7 @@
 use mathlib.Core.Path.{sym, _∙_}
 use borrow.Author.Tests.{not-true, not-false}
 use borrow.Author.Needs.{needs}
+use Rattle.fields.specs.Bits.{firstByte, topBit, bitCount}
 use Rattle.answers.specs.Order.{firstOf, ifGoodBy, refuses}
 use Rattle.rights.specs.Actions.{takingOver}
 use Rattle.actions.specs.Decided.{decidedBy}
@@ -16,7 +17,7 @@ list-field-requires : tie.Need-list-field-requires
 list-field-requires c κs = search needs
 
 returns : tie.Need-returns
-unfolding decidedBy firstOf ifGoodBy refuses
+unfolding decidedBy firstOf ifGoodBy refuses firstByte topBit bitCount
 returns c = simp (sym (c .before .before .all-hold .ensures) ∙ not-true _ (c .before .if1 .taken), c .list-field .ensures)
 
 change-all-requires : tie.Need-change-all-requires

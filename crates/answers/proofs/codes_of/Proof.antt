@@ -1,9 +1,8 @@
 -- `answers::codes_of` meets its contract. Assumes nothing.
-use Rattle.answers.specs.Answers.{codesOf}
 use borrow.Author.Needs.{needs}
+use Rattle.answers.specs.Answers.{codesOf}
 use Rattle.answers.proofs.codes_of.Statement.{statement}
 use Rattle.answers.proofs.codes_of.Tie as tie
-use Rattle.answers.proofs.codes_of.Reads as reads
 
 enum-told : tie.Need-enum-told
 enum-told c = search needs
@@ -55,35 +54,35 @@ row-requires-8 c κs = search needs
 
 returns : tie.Need-returns
 unfolding codesOf
-returns c = rw (c .row .ensures, c .before .enum-told .given .1)
+returns c = simp (c .before .enum-told .given .1, c .row .ensures)
 
 returns-2 : tie.Need-returns-2
 unfolding codesOf
-returns-2 c = rw (c .row2 .ensures, c .before .enum-told2 .given .1)
+returns-2 c = simp (c .before .enum-told2 .given .1, c .row2 .ensures)
 
 returns-3 : tie.Need-returns-3
 unfolding codesOf
-returns-3 c = rw (c .row3 .ensures, c .before .enum-told3 .given .1)
+returns-3 c = simp (c .before .enum-told3 .given .1, c .row3 .ensures)
 
 returns-4 : tie.Need-returns-4
 unfolding codesOf
-returns-4 c = rw (c .row4 .ensures, c .before .enum-told4 .given .1)
+returns-4 c = simp (c .before .enum-told4 .given .1, c .row4 .ensures)
 
 returns-5 : tie.Need-returns-5
 unfolding codesOf
-returns-5 c = rw (c .row5 .ensures, c .before .enum-told5 .given .1)
+returns-5 c = simp (c .before .enum-told5 .given .1, c .row5 .ensures)
 
 returns-6 : tie.Need-returns-6
 unfolding codesOf
-returns-6 c = rw (c .row6 .ensures, c .before .enum-told6 .given .1)
+returns-6 c = simp (c .before .enum-told6 .given .1, c .row6 .ensures)
 
 returns-7 : tie.Need-returns-7
 unfolding codesOf
-returns-7 c = rw (c .row7 .ensures, c .before .enum-told7 .given .1)
+returns-7 c = simp (c .before .enum-told7 .given .1, c .row7 .ensures)
 
 returns-8 : tie.Need-returns-8
 unfolding codesOf
-returns-8 c = rw (c .row8 .ensures, c .before .enum-told8 .given .1)
+returns-8 c = simp (c .before .enum-told8 .given .1, c .row8 .ensures)
 
 pub codes-of-spec : {M : Type 1} → statement M
 codes-of-spec =

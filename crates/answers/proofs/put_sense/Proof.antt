@@ -1,5 +1,6 @@
 -- `answers::put_sense` meets its contract.
 -- Assumes nothing.
+use Rattle.fields.specs.Field.{bytes}
 use borrow.Author.Needs.{needs}
 use Rattle.answers.specs.Answers.{senseAfter, fixedFormat}
 use Rattle.answers.proofs.put_sense.Statement.{statement}
@@ -33,7 +34,7 @@ same-length : tie.Need-same-length
 same-length c = search needs
 
 returns : tie.Need-returns
-unfolding senseAfter fixedFormat
+unfolding senseAfter fixedFormat bytes
 returns c = simp (c .before .before .before .before .before .before .before .a .given .1, c .before .before .put .ensures, c .before .before .before .before .before .fixed-format .ensures)
 
 returns-2 : tie.Need-returns-2

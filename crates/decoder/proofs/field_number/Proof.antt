@@ -1,9 +1,9 @@
 -- `decoder::field_number` meets its contract. Assumes nothing.
-use Rattle.forms.specs.Forms.{fieldNumber}
 use borrow.Author.Needs.{needs}
+use Rattle.fields.specs.Bits.{numberIn}
+use Rattle.forms.specs.Forms.{bytesOf}
 use Rattle.decoder.proofs.field_number.Statement.{statement}
 use Rattle.decoder.proofs.field_number.Tie as tie
-use Rattle.decoder.proofs.field_number.Reads as reads
 
 enum-known-field : tie.Need-enum-known-field
 enum-known-field c = search needs
@@ -33,15 +33,15 @@ number-requires-3 : tie.Need-number-requires-3
 number-requires-3 c κs = search needs
 
 returns : tie.Need-returns
-unfolding fieldNumber
+unfolding bytesOf numberIn
 returns c = simp (c .before .before .field .given .1) (c .number .ensures .0)
 
 returns-2 : tie.Need-returns-2
-unfolding fieldNumber
+unfolding bytesOf numberIn
 returns-2 c = simp (c .before .before .field2 .given .1) (c .number2 .ensures .0)
 
 returns-3 : tie.Need-returns-3
-unfolding fieldNumber
+unfolding bytesOf numberIn
 returns-3 c = simp (c .before .before .field3 .given .1) (c .number3 .ensures .0)
 
 pub field-number-spec : {M : Type 1} → statement M

@@ -1,11 +1,14 @@
 -- `decoder::is_wrong` meets its contract. Assumes nothing.
 use mathlib.Core.Bool.{not}
 use mathlib.Core.Path.{sym, ap}
-use Rattle.forms.specs.Tests.{wrong}
+use native.Mathlib.Nat.{zero-add, div-one}
 use borrow.Author.Needs.{needs}
+use Rattle.fields.specs.Field.{bit, field}
+use Rattle.fields.specs.Bits.{numberIn}
+use Rattle.forms.specs.Forms.{number}
+use Rattle.forms.specs.Tests.{wrongIn, isSet, notZero, checkOf}
 use Rattle.decoder.proofs.is_wrong.Statement.{statement}
 use Rattle.decoder.proofs.is_wrong.Tie as tie
-use Rattle.decoder.proofs.is_wrong.Reads as reads
 
 enum-told : tie.Need-enum-told
 enum-told c = search needs
@@ -71,44 +74,44 @@ is-type-requires : tie.Need-is-type-requires
 is-type-requires c κs = search needs
 
 returns : tie.Need-returns
-unfolding wrong
+unfolding wrongIn checkOf numberIn
 returns c = simp (c .enum-told .given .1)
 
 returns-2 : tie.Need-returns-2
-unfolding wrong
-returns-2 c = simp (c .before .enum-told2 .given .1, sym (c .byte .ensures))
+unfolding wrongIn checkOf numberIn field notZero
+returns-2 c = simp (c .before .enum-told2 .given .1, sym (c .byte .ensures), zero-add)
 
 returns-3 : tie.Need-returns-3
-unfolding wrong
-returns-3 c = simp (c .before .before .enum-told3 .given .1, sym (c .before .byte2 .ensures)) (ap not (c .is-page .ensures))
+unfolding wrongIn checkOf numberIn field
+returns-3 c = simp (c .before .before .enum-told3 .given .1, sym (c .before .byte2 .ensures), zero-add) (ap not (c .is-page .ensures))
 
 returns-4 : tie.Need-returns-4
-unfolding wrong
+unfolding wrongIn checkOf numberIn notZero
 returns-4 c = simp (c .before .enum-told4 .given .1, sym (c .byte3 .ensures))
 
 returns-5 : tie.Need-returns-5
-unfolding wrong
-returns-5 c = simp (c .enum-told5 .given .1)
+unfolding wrongIn checkOf numberIn number
+returns-5 c = simp (c .enum-told5 .given .1, sym (c .before .before .before .pre))
 
 returns-6 : tie.Need-returns-6
-unfolding wrong
+unfolding wrongIn checkOf numberIn isSet bit
 returns-6 c = simp (c .before .before .enum-told6 .given .1, sym (c .before .byte4 .ensures)) (c .bit .ensures)
 
 returns-7 : tie.Need-returns-7
-unfolding wrong
+unfolding wrongIn checkOf numberIn isSet bit
 returns-7 c = simp (c .before .before .enum-told7 .given .1, sym (c .before .byte5 .ensures)) (c .bit2 .ensures)
 
 returns-8 : tie.Need-returns-8
-unfolding wrong
-returns-8 c = simp (c .enum-told8 .given .1)
+unfolding wrongIn checkOf numberIn number
+returns-8 c = simp (c .enum-told8 .given .1, sym (c .before .before .before .pre))
 
 returns-9 : tie.Need-returns-9
-unfolding wrong
+unfolding wrongIn checkOf numberIn notZero
 returns-9 c = simp (c .before .enum-told9 .given .1, sym (c .byte6 .ensures))
 
 returns-10 : tie.Need-returns-10
-unfolding wrong
-returns-10 c = simp (c .before .before .enum-told10 .given .1, sym (c .before .byte7 .ensures)) (ap not (c .is-type .ensures))
+unfolding wrongIn checkOf numberIn
+returns-10 c = simp (c .before .before .enum-told10 .given .1, sym (c .before .byte7 .ensures), div-one) (ap not (c .is-type .ensures))
 
 pub is-wrong-spec : {M : Type 1} → statement M
 is-wrong-spec =

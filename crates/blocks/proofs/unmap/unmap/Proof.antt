@@ -1,6 +1,7 @@
 -- `blocks::unmap::unmap` meets its contract. Assumes nothing.
 use mathlib.Core.Path.{sym, _∙_}
 use borrow.Author.Needs.{needs}
+use Rattle.fields.specs.Bits.{firstByte, topBit, bitCount}
 use Rattle.blocks.proofs.BlockLaws.{unmap-broken, unmap-short, unmap-many, unmap-range, unmap-done}
 use Rattle.blocks.proofs.unmap.unmap.Statement.{statement}
 use Rattle.blocks.proofs.unmap.unmap.Tie as tie
@@ -24,6 +25,7 @@ list-field-requires : tie.Need-list-field-requires
 list-field-requires c κs = tt
 
 returns-3 : tie.Need-returns-3
+unfolding firstByte topBit bitCount
 returns-3 c = unmap-many _ _ _ _ (sym (c .before .before .before .before .before .broken-off .ensures) ∙ (c .before .before .before .before .if1 .left)) (c .before .before .before .if2 .left) _ (c .before .before .considered .ensures) _ (c .list-field .ensures) (c .before .if3 .taken)
 
 some-fails-requires : tie.Need-some-fails-requires

@@ -1,7 +1,7 @@
 -- `commands::stages::asked` meets its contract. Assumes nothing.
 use mathlib.Core.Path.{sym, _∙_}
 use Rattle.conflict.proofs.TableLaws.{none-stopped}
-use Rattle.commands.proofs.StageLaws.{long-least, asked-unlisted, asked-length, asked-wrong, asked-conflict, asked-passes}
+use Rattle.commands.proofs.StageLaws.{long-within, asked-unlisted, asked-length, asked-wrong, asked-conflict, asked-passes}
 use borrow.Author.Needs.{needs}
 use Rattle.commands.proofs.stages.asked.Statement.{statement}
 use Rattle.commands.proofs.stages.asked.Tie as tie
@@ -25,7 +25,7 @@ returns-2 : tie.Need-returns-2
 returns-2 c = asked-length _ _ _ _ _ (sym (c .before .before .before .before .before .entry-of .ensures) ∙ (c .before .before .before .entry .given .1)) (c .if1 .taken)
 
 request-requires : tie.Need-request-requires
-request-requires c κs = long-least _ _ (sym (c .before .before .before .before .before .entry-of .ensures) ∙ (c .before .before .before .entry .given .1))
+request-requires c κs = long-within _ _ (sym (c .before .before .before .before .before .entry-of .ensures) ∙ (c .before .before .before .entry .given .1))
 
 enum-known-decoded : tie.Need-enum-known-decoded
 enum-known-decoded c = search needs

@@ -1,0 +1,264 @@
+-- Which answers the rows of the order have, stage by stage: 2 comes of the fields alone, 5 of a command's own tests alone.
+-- Assumes nothing.
+use mathlib.Core.Path.{_≡_, _∙_}
+use mathlib.Core.Bool.{Bool, true, false, not, _&&_}
+use mathlib.Core.List.{List, [], _∷_, _++_}
+use Prim.Native.Nat.{ℕ, _+_, _*_, _-_}
+use lib.Dec.{T, T-not, eqb, ltb, leb}
+use lib.ListN.{length}
+use Rattle.fields.specs.Bits.{Bits, within, firstByte, topBit, bitCount}
+use Rattle.fields.proofs.Tests.{both, not-not, false→T}
+use Rattle.answers.specs.declared.Refusal.{Refusal}
+use Rattle.answers.specs.declared.Refusal.the-variants.{OutOfRange, ListLength, NoPlace, OtherType, NoRoom}
+use Rattle.answers.specs.declared.Answer.{Answer}
+use Rattle.answers.specs.declared.Answer.the-variants.{Good, Refused, Conflict, Unusable, Short}
+use Rattle.answers.specs.Answers.{plain, codesOf, numberOf, notListed, invalidField, listField}
+use Rattle.answers.specs.Order.{Row, _if_, first, next, refuses, refusing, firstOf, refusingBy}
+use Rattle.answers.proofs.OrderLaws.{row-fails, next-after, next-refuses, good-cases}
+use Rattle.pool.specs.Pool.{Pool}
+use Rattle.rights.specs.declared.Rights.{Rights}
+use Rattle.rights.specs.declared.Action.{Action}
+use Rattle.rights.specs.declared.Action.the-variants.{Register, Reserve, Release, Clear, Preempt, RegisterIgnoring}
+use Rattle.rights.specs.declared.Parameters.{Parameters}
+use Rattle.rights.specs.Actions.{serviceKeyBits, flagsByte, registerFlags, flagRows, actionRows, decisionRows}
+use Rattle.descriptors.specs.Descriptors.{dataLengthBits}
+use Rattle.forms.specs.declared.Move.{Move}
+use Rattle.forms.specs.declared.Move.the-variants.{Read, Write, WriteSame, Unmap, Status}
+use Rattle.forms.specs.declared.Command.{Command}
+use Rattle.forms.specs.declared.Command.the-variants.{Tells, Moves, Alters}
+use Rattle.forms.specs.declared.Entry.{Entry}
+use Rattle.forms.specs.declared.Entry.the-variants.{Listed, Unlisted}
+use Rattle.forms.specs.declared.Request.{Request}
+use Rattle.forms.specs.Forms.{entryOf, Asked, nothing, asks, askedOf}
+use Rattle.forms.specs.Tests.{Check, codeRows, lengthRows, checkRows, checksOf, fieldRows}
+use Rattle.store.specs.Store.{Store, Call, usable}
+use Rattle.store.specs.Tell.{tellRows}
+use Rattle.store.specs.Move.{readRows, writeRows, sameRows, unmapRows, statusRows, moveRows}
+use Rattle.store.specs.Alter.{parametersOf, alterRows}
+use Rattle.store.specs.Step.{callRows, storeRows, guardRows, commandRows, ownRows, answerTo}
+use Rattle.store.proofs.Parts.{callAnswer, storeAnswer, codeAnswer, lengthAnswer, fieldAnswer, guardAnswer, ownAnswer, parts, from-fields}
+
+-- ---- what holds of the answer of every row, and of GOOD, holds of what is answered
+
+unfoldable pub Each : (Answer → Type 0) → List Row → Type 0
+Each Q [] = T true
+Each Q ((a if b) ∷ rows) = Q a × Each Q rows
+
+module _ (Q : Answer → Type 0) where
+  each-append : (xs ys : List Row) → Each Q xs → Each Q ys → Each Q (xs ++ ys)
+  unfolding Each
+  each-append [] ys h k = k
+  each-append ((a if b) ∷ xs) ys h k = (h .0, each-append xs ys (h .1) k)
+
+  pub first-is : (rows : List Row) → Q Good → Each Q rows → Q (first rows)
+  unfolding Each firstOf
+  first-is [] g h = g
+  first-is ((a if true) ∷ rows) g h = h .0
+  first-is ((a if false) ∷ rows) g h = first-is rows g (h .1)
+
+  pub next-is : (a b : Answer) → Q a → Q b → Q (next a b)
+  next-is a b p q = good-cases a (λ g. rw (next-after a b g) q) (λ r. rw (next-refuses a b r) p)
+
+pub each-refusing : (rows : List Row) → Each (λ a. T (refuses a)) rows → T (refusing rows)
+unfolding Each refusingBy
+each-refusing [] h = tt
+each-refusing ((a if b) ∷ rows) h = both (refuses a) (refusing rows) (h .0) (each-refusing rows (h .1))
+
+-- answers of some kind, as those with one number: rows that have none of them
+pub none : (P : Answer → Bool) (rows : List Row) → T (not (P Good)) → Each (λ a. T (not (P a))) rows → T (not (P (first rows)))
+none P rows good e = first-is (λ a. T (not (P a))) rows good e
+
+-- ---- rows before the fields
+
+module _ (Q : Answer → Type 0) where
+  pub call-each : (c : Call) → Q Unusable → Each Q (callRows c)
+  unfolding callRows Each
+  call-each c u = (u, (u, (u, tt)))
+
+  pub store-each : (s : Store) → Q Unusable → Each Q (storeRows s)
+  unfolding storeRows Each
+  store-each s u = (u, tt)
+
+  pub code-each : (e : Entry) → Q notListed → Each Q (codeRows e)
+  unfolding codeRows Each
+  code-each e u = (u, tt)
+
+  pub length-each : (e : Entry) (cdb : List ℕ) → Q Unusable → Each Q (lengthRows e cdb)
+  unfolding lengthRows Each
+  length-each (Listed code) cdb u = (u, tt)
+  length-each Unlisted cdb u = tt
+
+  pub guard-each : (x : Asked) (r : Rights) (n : ℕ) → Q Conflict → Each Q (guardRows x r n)
+  unfolding guardRows Each
+  guard-each nothing r n u = tt
+  guard-each (asks q) r n u = (u, tt)
+
+  -- ---- the fields
+
+  pub check-each : (ks : List Check) (cdb : List ℕ) → ((b : Bits) → Q (invalidField b)) → Each Q (checkRows ks cdb)
+  unfolding checkRows Each
+  check-each [] cdb u = tt
+  check-each (k ∷ ks) cdb u = (u (k .bits), check-each ks cdb u)
+
+  pub field-each : (e : Entry) (cdb : List ℕ) → ((b : Bits) → Q (invalidField b)) → Each Q (fieldRows e cdb)
+  unfolding fieldRows
+  field-each e cdb u = check-each (checksOf e) cdb u
+
+-- ---- a command's own tests
+
+-- a place within so many bytes, for which sense has room
+unfoldable pub fits : ℕ → ℕ → ℕ → ℕ → Bool
+fits long at top n = leb top 7 && (ltb at 0x1_0000 && leb (8 * at + (7 - top) + n) (8 * long))
+
+-- every field of a list that is named stands in its first bytes
+abbrev pub namedBytes : ℕ
+namedBytes = 24
+
+unfoldable pub says : ℕ → Answer → Bool
+says n a = eqb (numberOf a) n
+
+-- what a rule must hold of, to hold of all of them
+pub record OwnAnswers (Q : Answer → Type 0) : Type 0 where
+  pub short : Q Short
+  pub conflict : Q Conflict
+  pub nowhere : (r : Refusal) → T (not (says 2 (Refused (plain r)))) → T (not (says 5 (Refused (plain r)))) → Q (Refused (plain r))
+  pub named : (b : Bits) → T (fits namedBytes (firstByte b) (topBit b) (bitCount b)) → Q (listField b)
+
+module _ (Q : Answer → Type 0) (w : OwnAnswers Q) where
+  moves-each : (m : Move) (q : Request) (capacity : ℕ) (p : Pool) (c : Call) → Each Q (moveRows m q capacity p c)
+  unfolding moveRows readRows writeRows sameRows unmapRows statusRows Each says numberOf codesOf fits firstByte topBit bitCount
+  moves-each Read q capacity p c = (w .nowhere OutOfRange tt tt, (w .short, tt))
+  moves-each Write q capacity p c = (w .nowhere OutOfRange tt tt, (w .short, (w .nowhere NoRoom tt tt, tt)))
+  moves-each WriteSame q capacity p c = (w .nowhere OutOfRange tt tt, (w .short, (w .nowhere NoRoom tt tt, tt)))
+  moves-each Unmap q capacity p c = (w .nowhere ListLength tt tt, (w .short, (w .named dataLengthBits tt, (w .nowhere OutOfRange tt tt, tt))))
+  moves-each Status q capacity p c = (w .nowhere OutOfRange tt tt, (w .short, tt))
+
+  flags-each : (o : Parameters) → Each Q (registerFlags o)
+  unfolding registerFlags Each fits firstByte topBit bitCount
+  flags-each o = (w .named (within flagsByte 3 1) tt, (w .named (within flagsByte 2 1) tt, (w .named (within flagsByte 0 1) tt, tt)))
+
+  actions-each : (a : Action) (r : Rights) (n : ℕ) (o : Parameters) → Each Q (decisionRows a r n o)
+  unfolding decisionRows flagRows actionRows Each says numberOf codesOf fits firstByte topBit bitCount
+  actions-each Register r n o = each-append Q (registerFlags o) _ (flags-each o) (w .conflict, (w .nowhere NoPlace tt tt, tt))
+  actions-each Reserve r n o = (w .conflict, (w .conflict, tt))
+  actions-each Release r n o = (w .conflict, (w .nowhere OtherType tt tt, tt))
+  actions-each Clear r n o = (w .conflict, tt)
+  actions-each Preempt r n o = (w .conflict, (w .named serviceKeyBits tt, (w .conflict, tt)))
+  actions-each RegisterIgnoring r n o = each-append Q (registerFlags o) _ (flags-each o) (w .conflict, (w .nowhere NoPlace tt tt, tt))
+
+  command-each : (k : Command) (q : Request) (s : Store) (c : Call) → Each Q (commandRows k q s c)
+  unfolding commandRows tellRows alterRows Each says numberOf codesOf
+  command-each (Tells t) q s c = (w .short, tt)
+  command-each (Moves m) q s c = moves-each m q (s .unit .capacity) (s .pool) c
+  command-each (Alters a) q s c = (w .nowhere ListLength tt tt, (w .short, actions-each a (s .unit .rights) (c .nexus) (parametersOf q (c .dataOut))))
+
+  pub own-each : (x : Asked) (s : Store) (c : Call) → Each Q (ownRows x s c)
+  unfolding ownRows Each
+  own-each nothing s c = tt
+  own-each (asks q) s c = command-each (q .command) q s c
+
+-- none of them is GOOD, and none is 2
+pub own-refusing : (x : Asked) (s : Store) (c : Call) → T (refusing (ownRows x s c))
+unfolding refuses
+own-refusing x s c =
+    each-refusing _ (own-each (λ a. T (refuses a)) (record { short = tt; conflict = tt; nowhere = λ r t u. tt; named = λ b t. tt }) x s c)
+
+own-not-two : (x : Asked) (s : Store) (c : Call) → T (not (says 2 (first (ownRows x s c))))
+unfolding says numberOf codesOf
+own-not-two x s c = none (says 2) _ tt (own-each _ (record { short = tt; conflict = tt; nowhere = λ r t u. t; named = λ b t. tt }) x s c)
+
+-- ---- one number, and which stage answers it
+
+-- what is answered behind the fields
+abbrev pub later : Store → Call → Answer
+later s c = next (guardAnswer (s .unit) c) (ownAnswer s c)
+
+-- and from the code on
+abbrev staged : Store → Call → Answer
+staged s c = next (codeAnswer c) (next (lengthAnswer c) (next (fieldAnswer c) (later s c)))
+
+-- the call comes as far as its fields
+pub record AtFields (s : Store) (c : Call) : Type 0 where
+  pub call : callAnswer c ≡ Good
+  pub store : T (usable s)
+  pub code : codeAnswer c ≡ Good
+  pub length : lengthAnswer c ≡ Good
+
+pub fields-decide : (s : Store) (c : Call) → AtFields s c → answerTo s c ≡ next (fieldAnswer c) (later s c)
+fields-decide s c f = from-fields s c (f .call) (f .store) (f .code) (f .length)
+
+usable-is : (s : Store) → storeAnswer s ≡ Good → T (usable s)
+unfolding storeRows refuses
+usable-is s e = not-not (usable s) (false→T (not (usable s)) (row-fails Unusable _ _ tt e))
+
+module _ (P : Answer → Bool) where
+  -- a stage that has none of them was passed
+  past : (a b : Answer) → T (not (P a)) → T (P (next a b)) → (a ≡ Good) × T (P b)
+  past a b n t =
+      good-cases a (λ g. (g, rw (next-after a b g) at t)) (λ r. absurd (T-not (P a) n (rw (next-refuses a b r) at t)))
+
+  -- and where what is behind has none of them, it was this stage
+  behind : (a b : Answer) → T (not (P b)) → T (P (next a b)) → next a b ≡ a
+  behind a b n t =
+      good-cases a (λ g. absurd (T-not (P b) n (rw (next-after a b g) at t))) (λ r. next-refuses a b r)
+
+  module _ (good : T (not (P Good))) (unusable : T (not (P Unusable))) (s : Store) (c : Call) (h : T (P (answerTo s c))) where
+    past-call : (callAnswer c ≡ Good) × T (P (next (storeAnswer s) (staged s c)))
+    past-call = past (callAnswer c) _ (none P _ good (call-each _ c unusable)) (rw (parts s c) at h)
+
+    pub at-call : callAnswer c ≡ Good
+    at-call = past-call .0
+
+    pub at-fields : T (not (P notListed)) → AtFields s c
+    at-fields unlisted =
+        let stored = past (storeAnswer s) _ (none P _ good (store-each _ s unusable)) (past-call .1) in
+        let coded = past (codeAnswer c) _ (none P _ good (code-each _ (entryOf (c .cdb)) unlisted)) (stored .1) in
+        let long = past (lengthAnswer c) _ (none P _ good (length-each _ (entryOf (c .cdb)) (c .cdb) unusable)) (coded .1) in
+        record { call = at-call; store = usable-is s (stored .0); code = coded .0; length = long .0 }
+
+-- ---- 2
+
+module _ (s : Store) (c : Call) (h : T (says 2 (answerTo s c))) where
+  pub two-reaches : AtFields s c
+  unfolding says numberOf codesOf
+  two-reaches = at-fields (says 2) tt tt s c h tt
+
+  later-not-two : T (not (says 2 (later s c)))
+  unfolding says numberOf
+  later-not-two =
+      next-is (λ a. T (not (says 2 a))) (guardAnswer (s .unit) c) (ownAnswer s c)
+      (none (says 2) _ tt (guard-each _ (askedOf (c .cdb)) (s .unit .rights) (c .nexus) tt))
+      (own-not-two (askedOf (c .cdb)) s c)
+
+  -- it is the answer of the fields
+  pub two-is : answerTo s c ≡ fieldAnswer c
+  two-is =
+      fields-decide s c two-reaches
+      ∙ behind (says 2) (fieldAnswer c) (later s c) later-not-two (rw (fields-decide s c two-reaches) at h)
+
+-- ---- 5
+
+module _ (s : Store) (c : Call) (h : T (says 5 (answerTo s c))) where
+  five-reaches : AtFields s c
+  unfolding says numberOf codesOf
+  five-reaches = at-fields (says 5) tt tt s c h tt
+
+  past-fields : (fieldAnswer c ≡ Good) × T (says 5 (later s c))
+  unfolding says numberOf codesOf
+  past-fields =
+      past (says 5) (fieldAnswer c) (later s c)
+      (none (says 5) _ tt (field-each _ (entryOf (c .cdb)) (c .cdb) (λ b. tt)))
+      (rw (fields-decide s c five-reaches) at h)
+
+  past-guard : (guardAnswer (s .unit) c ≡ Good) × T (says 5 (ownAnswer s c))
+  unfolding says numberOf
+  past-guard =
+      past (says 5) (guardAnswer (s .unit) c) (ownAnswer s c)
+      (none (says 5) _ tt (guard-each _ (askedOf (c .cdb)) (s .unit .rights) (c .nexus) tt))
+      (past-fields .1)
+
+  -- it is the answer of the command's own tests
+  pub five-is : answerTo s c ≡ ownAnswer s c
+  five-is =
+      fields-decide s c five-reaches ∙ next-after (fieldAnswer c) (later s c) (past-fields .0)
+      ∙ next-after (guardAnswer (s .unit) c) (ownAnswer s c) (past-guard .0)

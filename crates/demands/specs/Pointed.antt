@@ -1,0 +1,165 @@
+-- Which byte is wrong, as those put it who serve the store: "Support cannot see which field 05/24/00 means." What a refusal points at is read from
+-- its sense as a host reads it, and what it says is said of calls. Of any build, so that wrong ones can be put in; proofs/Pointed proves it of `step`.
+-- Assumes nothing.
+use mathlib.Core.Path.{_≡_}
+use mathlib.Core.Logic.{_≢_}
+use mathlib.Core.Bool.{Bool, true, false, _&&_, _||_}
+use mathlib.Core.List.{List, [], _∷_}
+use Prim.Native.Nat.{ℕ, _+_, _*_, _-_, _/_, _%_, _≤_, _<_}
+use lib.Dec.{T, eqb, ltb}
+use lib.ListN.{length, take}
+use Rattle.fields.specs.Field.{field, byte, bit}
+use Rattle.fields.specs.Bits.{Bits, within, firstByte, topBit, bitCount, AgreeIn}
+use Rattle.answers.specs.declared.Refusal.{Refusal}
+use Rattle.answers.specs.declared.Refusal.the-variants.{NotListed, InvalidField, OutOfRange, ListLength, ListField, NoPlace, OtherType, NoRoom}
+use Rattle.answers.specs.declared.Sense.{Sense}
+use Rattle.answers.specs.declared.Answer.{Answer}
+use Rattle.answers.specs.declared.Answer.the-variants.{Good, Refused, Conflict, Unusable, Short}
+use Rattle.answers.specs.Answers.{codesOf, numberOf, invalidField, listField}
+use Rattle.answers.specs.Order.{Row, _if_, first, refuses}
+use Rattle.forms.specs.declared.Code.{Code}
+use Rattle.forms.specs.declared.Entry.the-variants.{Listed}
+use Rattle.forms.specs.declared.Request.{Request}
+use Rattle.forms.specs.Forms.{entryOf, actionBits, asks, askedOf}
+use Rattle.forms.specs.Tests.{checkRows, serviceChecks, fieldRows}
+use Rattle.store.specs.Store.{Store, Call}
+use Rattle.store.specs.Step.{ownRows}
+use Rattle.demands.specs.History.{Build}
+
+-- ---- sense, as a host reads it; the names are SPC's
+
+-- byte 15: SKSV, C/D, BPV and the bit pointer; bytes 16-17: the field pointer
+unfoldable pub sksv : List ℕ → Bool
+sksv sense = bit 7 (byte 15 sense)
+
+unfoldable pub commandData : List ℕ → Bool
+commandData sense = bit 6 (byte 15 sense)
+
+unfoldable pub bpv : List ℕ → Bool
+bpv sense = bit 3 (byte 15 sense)
+
+unfoldable pub bitPointer : List ℕ → ℕ
+bitPointer sense = byte 15 sense % 8
+
+unfoldable pub fieldPointer : List ℕ → ℕ
+fieldPointer sense = field 16 2 sense
+
+-- it points at this field, of the CDB where C/D is set, of the parameter list where it is clear
+pub record PointsAt (cdb : Bool) (b : Bits) (sense : List ℕ) : Type 0 where
+  pub valid : sksv sense ≡ true
+  pub which : commandData sense ≡ cdb
+  pub bit-valid : bpv sense ≡ true
+  pub at-bit : bitPointer sense ≡ topBit b
+  pub at-byte : fieldPointer sense ≡ firstByte b
+  -- bits 5 and 4 are reserved
+  pub reserved : byte 15 sense / 16 % 4 ≡ 0
+
+-- ---- the same call with another CDB, or with another list
+
+abbrev pub withCdb : Call → List ℕ → Call
+withCdb c cdb = record { nexus = c .nexus; cdb = cdb; dataOut = c .dataOut; dataIn = c .dataIn; sense = c .sense }
+
+abbrev pub withList : Call → List ℕ → Call
+withList c list = record { nexus = c .nexus; cdb = c .cdb; dataOut = list; dataIn = c .dataIn; sense = c .sense }
+
+abbrev pub AreBytes : List ℕ → Type 0
+AreBytes l = (i : ℕ) → byte i l < 256
+
+-- the bits of a field lie within n bytes
+abbrev pub LiesIn : Bits → ℕ → Type 0
+LiesIn b n = 8 * firstByte b + (7 - topBit b) + bitCount b ≤ 8 * n
+
+-- ---- the laws, of calls
+
+pub record Pointed (f : Build) : Type 0 where
+  -- "The field is the first one wrong in 01's order": what is answered is the first row of the table that holds
+  pub first-in-cdb : (s : Store) (c : Call) → numberOf (f s c .seen .answer) ≡ 2 → f s c .seen .answer ≡ first (fieldRows (entryOf (c .cdb)) (c .cdb))
+  pub first-in-list : (s : Store) (c : Call) → numberOf (f s c .seen .answer) ≡ 5 → f s c .seen .answer ≡ first (ownRows (askedOf (c .cdb)) s c)
+  -- "For answers 2 and 5 fill sense bytes 15 to 17": each names a field, and sense points at it
+  pub cdb-named : (s : Store) (c : Call) → numberOf (f s c .seen .answer) ≡ 2 → (b : Bits) × (f s c .seen .answer ≡ invalidField b)
+  pub list-named : (s : Store) (c : Call) → numberOf (f s c .seen .answer) ≡ 5 → (b : Bits) × (f s c .seen .answer ≡ listField b)
+  pub cdb-told : (s : Store) (c : Call) (b : Bits) → f s c .seen .answer ≡ invalidField b → PointsAt true b (f s c .seen .sense)
+  pub list-told : (s : Store) (c : Call) (b : Bits) → f s c .seen .answer ≡ listField b → PointsAt false b (f s c .seen .sense)
+  -- the field is there: its bits lie within what was sent
+  pub cdb-there : (s : Store) (c : Call) (b : Bits) → f s c .seen .answer ≡ invalidField b → LiesIn b (length (c .cdb))
+  pub list-there : (s : Store) (c : Call) (b : Bits) → f s c .seen .answer ≡ listField b → LiesIn b (length (c .dataOut))
+  -- and it is the field that is at fault. Who leaves it as it is, and changes whatever else of the CDB but the operation code and service action, is
+  -- answered 2 again
+  pub cdb-stays : (s : Store) (c : Call) (b : Bits) → f s c .seen .answer ≡ invalidField b
+      → (cdb : List ℕ) → AreBytes (c .cdb) → AreBytes cdb → length cdb ≡ length (c .cdb)
+      → byte 0 cdb ≡ byte 0 (c .cdb) → AgreeIn actionBits (c .cdb) cdb → AgreeIn b (c .cdb) cdb
+      → numberOf (f s (withCdb c cdb) .seen .answer) ≡ 2
+  -- who leaves the field of a list as it is, and changes whatever else of the list, its length too, is refused again
+  pub list-stays : (s : Store) (c : Call) (b : Bits) → f s c .seen .answer ≡ listField b
+      → (list : List ℕ) → AreBytes (c .dataOut) → AreBytes list → AgreeIn b (c .dataOut) list
+      → T (refuses (f s (withList c list) .seen .answer))
+  -- every other answer with sense points nowhere
+  pub nowhere : (s : Store) (c : Call) (x : Sense) → f s c .seen .answer ≡ Refused x
+      → numberOf (f s c .seen .answer) ≢ 2 → numberOf (f s c .seen .answer) ≢ 5 → field 15 3 (f s c .seen .sense) ≡ 0
+  -- key and codes are as before, and so is every byte up to 14
+  pub codes : (s : Store) (c : Call) (x : Sense) → f s c .seen .answer ≡ Refused x
+      → take 15 (f s c .seen .sense)
+      ≡ 0x70 ∷ 0 ∷ codesOf (x .refusal) .key ∷ 0 ∷ 0 ∷ 0 ∷ 0 ∷ 0x0A ∷ 0 ∷ 0 ∷ 0 ∷ 0 ∷ codesOf (x .refusal) .asc ∷ codesOf (x .refusal) .ascq ∷ 0 ∷ []
+
+-- ---- the places are true, of the table: a row's test depends on the bits of its field alone
+
+-- the rows for two lists, one by one: they give the same answers, and where one names a field in which the lists agree, it holds for both or for
+-- neither
+unfoldable pub Alike : (Bits → Answer) → List ℕ → List ℕ → List Row → List Row → Type 0
+Alike named l m [] [] = T true
+Alike named l m [] (y ∷ ys) = T false
+Alike named l m (x ∷ xs) [] = T false
+Alike named l m ((a if x) ∷ xs) ((b if y) ∷ ys) = (a ≡ b) × ((p : Bits) → a ≡ named p → AgreeIn p l m → x ≡ y) × Alike named l m xs ys
+
+-- ---- and in order
+
+-- the place that an answer names: none, or a first byte, a highest bit and how many bits
+pub data Place : Type 0 where
+  unplaced : Place
+  placed : ℕ → ℕ → ℕ → Place
+
+unfoldable pub placeOf : Refusal → Place
+placeOf NotListed = unplaced
+placeOf (InvalidField byte top n) = placed byte top n
+placeOf OutOfRange = unplaced
+placeOf ListLength = unplaced
+placeOf (ListField byte top n) = placed byte top n
+placeOf NoPlace = unplaced
+placeOf OtherType = unplaced
+placeOf NoRoom = unplaced
+
+unfoldable pub placeIn : Answer → Place
+placeIn Good = unplaced
+placeIn (Refused x) = placeOf (x .refusal)
+placeIn Conflict = unplaced
+placeIn Unusable = unplaced
+placeIn Short = unplaced
+
+-- "then by lowest byte, then highest bit"; a field of no bits is none
+unfoldable pub precedes : Place → Place → Bool
+precedes unplaced q = true
+precedes (placed byte top n) unplaced = true
+precedes (placed byte top n) (placed byte′ top′ n′) = eqb n′ 0 || (ltb byte byte′ || (eqb byte byte′ && ltb top′ top))
+
+unfoldable pub precedesAll : Place → List Row → Bool
+precedesAll p [] = true
+precedesAll p ((a if x) ∷ rows) = precedes p (placeIn a) && precedesAll p rows
+
+unfoldable pub inOrder : List Row → Bool
+inOrder [] = true
+inOrder ((a if x) ∷ rows) = precedesAll (placeIn a) rows && inOrder rows
+
+pub record PlacesTrue : Type 0 where
+  -- two CDBs of one command
+  pub cdb : (l m : List ℕ) → AreBytes l → AreBytes m → entryOf l ≡ entryOf m → Alike invalidField l m (fieldRows (entryOf l) l) (fieldRows (entryOf m) m)
+  -- which command a CDB of an operation code is, and whether it is one, depends on the service action alone
+  pub action : (l m : List ℕ) → byte 0 l ≡ byte 0 m → AgreeIn actionBits l m → entryOf l ≡ entryOf m
+  -- two lists of one command, on one store
+  pub list : (q : Request) (s : Store) (c : Call) (m : List ℕ) → AreBytes (c .dataOut) → AreBytes m
+      → Alike listField (c .dataOut) m (ownRows (asks q) s c) (ownRows (asks q) s (withList c m))
+  -- NACA of the control byte comes first
+  pub control-first : (l : List ℕ) (code : Code) → entryOf l ≡ Listed code
+      → fieldRows (entryOf l) l ≡ invalidField (within (code .long - 1) 2 1) if bit 2 (byte (code .long - 1) l) ∷ checkRows (serviceChecks (code .service)) l
+  -- behind it the fields of one row stand by lowest byte, then highest bit
+  pub cdb-order : (l : List ℕ) (code : Code) → entryOf l ≡ Listed code → T (inOrder (checkRows (serviceChecks (code .service)) l))
+  pub list-order : (q : Request) (s : Store) (c : Call) → T (inOrder (ownRows (asks q) s c))

@@ -20,19 +20,23 @@ use Rattle.answers.specs.declared.Refusal.the-variants.{NotListed, InvalidField
 use Rattle.answers.specs.declared.Sense.{Sense}
 use Rattle.answers.specs.declared.Answer.{Answer}
 use Rattle.answers.specs.declared.Answer.the-variants.{Good, Refused, Conflict, Unusable, Short}
-use Rattle.answers.specs.Answers.{codesOf, numberOf, pointerMark, pointerByte, fixedFormat, senseAfter, invalidField, listField}
-use Rattle.answers.specs.Order.{Row, _if_, first, refuses, refusing, firstOf, refusingBy}
-use Rattle.answers.proofs.OrderLaws.{row-fails, rows-after, next-refuses, next-refused, not-good}
+use Rattle.answers.specs.Answers.{codesOf, numberOf, notListed, pointerMark, pointerByte, fixedFormat, senseAfter, invalidField, listField}
+use Rattle.answers.specs.Order.{Row, _if_, first, next, refuses, refusing, firstOf, refusingBy}
+use Rattle.answers.proofs.OrderLaws.{row-pass, row-end, row-fails, rows-after, next-refuses, next-refused, not-good}
+use Rattle.forms.specs.declared.Code.{Code}
 use Rattle.forms.specs.declared.Entry.{Entry}
 use Rattle.forms.specs.declared.Entry.the-variants.{Listed, Unlisted}
 use Rattle.forms.specs.Forms.{actionBits, entryOf, Asked, nothing, asks, askedOf}
-use Rattle.forms.specs.Tests.{codeRows, lengthRows, fieldRows}
+use Rattle.forms.specs.Tests.{isUnlisted, codeRows, lengthRows, fieldRows}
 use Rattle.forms.proofs.Refusing.{field-refusing}
 use Rattle.store.specs.Store.{Store, Call, seenOf}
 use Rattle.store.specs.Step.{callRows, ownRows, step, answerTo}
-use Rattle.store.proofs.Parts.{callAnswer, storeAnswer, codeAnswer, lengthAnswer, fieldAnswer, guardAnswer, ownAnswer, parts}
+use Rattle.store.proofs.Parts.{callAnswer, storeAnswer, codeAnswer, lengthAnswer, fieldAnswer, guardAnswer, ownAnswer, parts, from-fields}
 use Rattle.store.proofs.StoreLaws.{step-answer, step-seen}
+use Rattle.commands.proofs.StageLaws.{long-within}
+use Rattle.demands.specs.Limits.{Heard}
 use Rattle.demands.specs.Pointed.{sksv, commandData, bpv, bitPointer, fieldPointer, PointsAt, withCdb, withList, AreBytes, LiesIn, Pointed, Alike, Place, unplaced, placed, placeOf, placeIn}
+use Rattle.demands.proofs.Fielded.{later, heard-call}
 use Rattle.demands.proofs.Places.{places-true}
 use Rattle.demands.proofs.Answering.{first-is, field-each, own-refusing, AtFields, fields-decide, fits, namedBytes, says, at-call, two-reaches, two-is, five-is}
 use Rattle.demands.proofs.Named.{placeFits, field-fits, field-named, own-named, own-fits, nowhere-else, own-long}
@@ -294,10 +298,31 @@ codes : (s : Store) (c : Call) (x : Sense) → step s c .seen .answer ≡ Refuse
     ≡ 0x70 ∷ 0 ∷ codesOf (x .refusal) .key ∷ 0 ∷ 0 ∷ 0 ∷ 0 ∷ 0x0A ∷ 0 ∷ 0 ∷ 0 ∷ 0 ∷ codesOf (x .refusal) .asc ∷ codesOf (x .refusal) .ascq ∷ 0 ∷ []
 codes s c x e = rw (sense-is s c x e) (codes-read x _)
 
+-- ---- what is wrong is told
+
+module _ (s : Store) (c : Call) (h : Heard s c) (code : Code) (e : entryOf (c .cdb) ≡ Listed code) (l : length (c .cdb) ≡ code .long) where
+  code-passes : codeAnswer c ≡ Good
+  unfolding codeRows isUnlisted
+  code-passes = rw e (row-pass notListed _ _ refl ∙ row-end)
+
+  length-passes : lengthAnswer c ≡ Good
+  unfolding lengthRows
+  length-passes = rw e (row-pass Unusable _ _ (ap not (eq-eqb _ _ l)) ∙ row-end)
+
+  some-byte : 1 ≤ length (c .cdb)
+  some-byte = let least = long-within (c .cdb) code e .0 in omega arith
+
+  cdb-due : (b : Bits) → fieldAnswer c ≡ invalidField b → step s c .seen .answer ≡ invalidField b
+  unfolding refuses
+  cdb-due b w =
+      step-answer s c ∙ from-fields s c (heard-call s c h some-byte) (h .store) code-passes length-passes
+      ∙ ap (λ (a : Answer). next a (later s c)) w ∙ next-refuses (invalidField b) (later s c) tt
+
 pub pointed : Pointed step
 pointed = record {
   first-in-cdb = first-in-cdb;
   first-in-list = first-in-list;
+  cdb-due = cdb-due;
   cdb-named = cdb-named;
   list-named = list-named;
   cdb-told = cdb-told;

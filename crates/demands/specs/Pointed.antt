@@ -25,6 +25,7 @@ use Rattle.forms.specs.Tests.{checkRows, serviceChecks, fieldRows}
 use Rattle.store.specs.Store.{Store, Call}
 use Rattle.store.specs.Step.{ownRows}
 use Rattle.demands.specs.History.{Build}
+use Rattle.demands.specs.Limits.{Heard}
 
 -- ---- sense, as a host reads it; the names are SPC's
 
@@ -75,6 +76,9 @@ pub record Pointed (f : Build) : Type 0 where
   -- "The field is the first one wrong in 01's order": what is answered is the first row of the table that holds
   pub first-in-cdb : (s : Store) (c : Call) → numberOf (f s c .seen .answer) ≡ 2 → f s c .seen .answer ≡ first (fieldRows (entryOf (c .cdb)) (c .cdb))
   pub first-in-list : (s : Store) (c : Call) → numberOf (f s c .seen .answer) ≡ 5 → f s c .seen .answer ≡ first (ownRows (askedOf (c .cdb)) s c)
+  -- and so it is answered, where a call comes as far as its fields
+  pub cdb-due : (s : Store) (c : Call) → Heard s c → (code : Code) → entryOf (c .cdb) ≡ Listed code → length (c .cdb) ≡ code .long
+      → (b : Bits) → first (fieldRows (entryOf (c .cdb)) (c .cdb)) ≡ invalidField b → f s c .seen .answer ≡ invalidField b
   -- "For answers 2 and 5 fill sense bytes 15 to 17": each names a field, and sense points at it
   pub cdb-named : (s : Store) (c : Call) → numberOf (f s c .seen .answer) ≡ 2 → (b : Bits) × (f s c .seen .answer ≡ invalidField b)
   pub list-named : (s : Store) (c : Call) → numberOf (f s c .seen .answer) ≡ 5 → (b : Bits) × (f s c .seen .answer ≡ listField b)

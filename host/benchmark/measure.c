@@ -108,6 +108,8 @@ static const struct operation operations[] = {
      .cdb_bytes = 10, .cdb = {0x28, [4] = 2, [8] = 128}},
     {"READ(10), 128 blocks, unmapped, 128 free slots", .slots = 128,
      .moved = TRANSFER_BYTES, .cdb_bytes = 10, .cdb = {0x28, [8] = 128}},
+    {"READ(10), 129 blocks, refused for the count (2)", FULL,
+     .answer = RIDGE_CDB_FIELD, .cdb_bytes = 10, .cdb = {0x28, [8] = 129}},
     {"WRITE(10), 1 block, mapped", FULL, .moved = 512, .sends = BLOCKS,
      .cdb_bytes = 10, .cdb = {0x2A, [5] = 5, [8] = 1}},
     {"WRITE(10), 1 block, new, 127 full slots", .slots = 128, .full = 127,
@@ -188,6 +190,9 @@ static const struct operation operations[] = {
     {"RESERVE OUT, PREEMPT of 8 registrants by the key 0", FULL, .places = 8,
      .type = 7, .nexus = 7, .sends = KEYS, .moved = LIST_BYTES, .key = 0x17,
      .cdb_bytes = 10, .cdb = {0x5F, 4, 3, [8] = LIST_BYTES}},
+    {"RESERVE OUT, PREEMPT by the key 0, refused (5)", HELD, .sends = KEYS,
+     .nexus = 7, .key = 0x17, .answer = RIDGE_LIST_FIELD,
+     .cdb = {0x5F, 4, 3, [8] = LIST_BYTES}},
 };
 enum { OPERATIONS = sizeof operations / sizeof operations[0] };
 

@@ -7,14 +7,14 @@ use Prim.Native.Nat.{ℕ, _+_, _*_, _-_}
 use lib.Dec.{T, T-not, eqb, ltb, leb}
 use lib.ListN.{length}
 use Rattle.fields.specs.Bits.{Bits, within, firstByte, topBit, bitCount}
-use Rattle.fields.proofs.Tests.{both, not-not, false→T}
+use Rattle.fields.proofs.Tests.{both}
 use Rattle.answers.specs.declared.Refusal.{Refusal}
 use Rattle.answers.specs.declared.Refusal.the-variants.{OutOfRange, ListLength, NoPlace, OtherType, NoRoom}
 use Rattle.answers.specs.declared.Answer.{Answer}
 use Rattle.answers.specs.declared.Answer.the-variants.{Good, Refused, Conflict, Unusable, Short}
 use Rattle.answers.specs.Answers.{plain, codesOf, numberOf, notListed, invalidField, listField}
 use Rattle.answers.specs.Order.{Row, _if_, first, next, refuses, refusing, firstOf, refusingBy}
-use Rattle.answers.proofs.OrderLaws.{row-fails, next-after, next-refuses, good-cases}
+use Rattle.answers.proofs.OrderLaws.{next-after, next-refuses, good-cases}
 use Rattle.pool.specs.Pool.{Pool}
 use Rattle.rights.specs.declared.Rights.{Rights}
 use Rattle.rights.specs.declared.Action.{Action}
@@ -36,7 +36,7 @@ use Rattle.store.specs.Tell.{tellRows}
 use Rattle.store.specs.Move.{readRows, writeRows, sameRows, unmapRows, statusRows, moveRows}
 use Rattle.store.specs.Alter.{parametersOf, alterRows}
 use Rattle.store.specs.Step.{callRows, storeRows, guardRows, commandRows, ownRows, answerTo}
-use Rattle.store.proofs.Parts.{callAnswer, storeAnswer, codeAnswer, lengthAnswer, fieldAnswer, guardAnswer, ownAnswer, parts, from-fields}
+use Rattle.store.proofs.Parts.{callAnswer, storeAnswer, codeAnswer, lengthAnswer, fieldAnswer, guardAnswer, ownAnswer, parts, from-fields, passes-usable}
 
 -- ---- what holds of the answer of every row, and of GOOD, holds of what is answered
 
@@ -187,10 +187,6 @@ pub record AtFields (s : Store) (c : Call) : Type 0 where
 pub fields-decide : (s : Store) (c : Call) → AtFields s c → answerTo s c ≡ next (fieldAnswer c) (later s c)
 fields-decide s c f = from-fields s c (f .call) (f .store) (f .code) (f .length)
 
-usable-is : (s : Store) → storeAnswer s ≡ Good → T (usable s)
-unfolding storeRows refuses
-usable-is s e = not-not (usable s) (false→T (not (usable s)) (row-fails Unusable _ _ tt e))
-
 module _ (P : Answer → Bool) where
   -- a stage that has none of them was passed
   past : (a b : Answer) → T (not (P a)) → T (P (next a b)) → (a ≡ Good) × T (P b)
@@ -214,7 +210,7 @@ module _ (P : Answer → Bool) where
         let stored = past (storeAnswer s) _ (none P _ good (store-each _ s unusable)) (past-call .1) in
         let coded = past (codeAnswer c) _ (none P _ good (code-each _ (entryOf (c .cdb)) unlisted)) (stored .1) in
         let long = past (lengthAnswer c) _ (none P _ good (length-each _ (entryOf (c .cdb)) (c .cdb) unusable)) (coded .1) in
-        record { call = at-call; store = usable-is s (stored .0); code = coded .0; length = long .0 }
+        record { call = at-call; store = passes-usable s (stored .0); code = coded .0; length = long .0 }
 
 -- ---- 2
 

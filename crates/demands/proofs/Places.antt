@@ -1,16 +1,14 @@
 -- The places that answers 2 and 5 name are true: a row's test depends on the bits of its field alone, and the fields of a row stand in order.
 -- Assumes nothing.
-use mathlib.Core.Path.{_≡_, refl, sym, ap, ap₂, _∙_, subst}
-use mathlib.Core.Bool.{Bool, true, not, _&&_, cond}
+use mathlib.Core.Path.{_≡_, refl, ap, subst}
+use mathlib.Core.Bool.{Bool, true, not, _&&_}
 use mathlib.Core.List.{List, [], _∷_, _++_}
-use Prim.Native.Nat.{ℕ, zero, suc, _+_, _*_, _-_, _/_, _%_, _^_, _<_}
-use native.Mathlib.Nat.{div-one}
+use Prim.Native.Nat.{ℕ, _+_, _-_}
 use native.Mathlib.Omega.{arith}
-use lib.Arith.{mod-mul}
-use lib.Dec.{T, eqb, lit<}
+use lib.Dec.{T, eqb, lit<, lit≤}
 use Rattle.fields.specs.Field.{byte, bit}
 use Rattle.fields.specs.Bits.{Bits, within, firstByte, topBit, bitCount, numberIn, bitIn, AgreeIn, isPlace}
-use Rattle.fields.proofs.BitsLaws.{agree-number}
+use Rattle.fields.proofs.BitsLaws.{agree-number, within-number}
 use Rattle.answers.specs.declared.Answer.{Answer}
 use Rattle.answers.specs.declared.Answer.the-variants.{Conflict, Short}
 use Rattle.answers.specs.Answers.{codesOf, numberOf, invalidField, outOfRange, listLength, listField, noPlace, otherType, noRoom}
@@ -123,39 +121,9 @@ cdb-alike l m hl hm e = rw e (alike-checks l m hl hm (checksOf (entryOf m)) (ent
 
 -- ---- which command a CDB is
 
--- a digit is known by the test for 1
-digit-is : (u : ℕ) → u < 2 → u ≡ cond (eqb u 1) 1 0
-digit-is zero h = refl
-digit-is (suc zero) h = refl
-digit-is (suc (suc u)) h = absurd (omega arith)
-
-action-bit : (i : ℕ) → i < 5 → (l : List ℕ) → bitIn actionBits i l ≡ bit (4 - i) (byte 1 l)
-unfolding bitIn firstByte topBit
-action-bit i h l = ap₂ (λ (k j : ℕ). bit k (byte j l)) (omega arith) (omega arith)
-
--- the highest digit, and those below it
-halved : (c x : ℕ) → 0 < c → x % (2 * c) ≡ x / c % 2 * c + x % c
-halved c x h = mod-mul x {m = 2} {c = c} (lit< tt) h
-
-five-digits : (x : ℕ) → x % 32 ≡ x / 16 % 2 * 16 + (x / 8 % 2 * 8 + (x / 4 % 2 * 4 + (x / 2 % 2 * 2 + x % 2)))
-five-digits x =
-    halved 16 x (lit< tt) ∙ ap (λ (r : ℕ). x / 16 % 2 * 16 + r)
-    (halved 8 x (lit< tt) ∙ ap (λ (r : ℕ). x / 8 % 2 * 8 + r)
-    (halved 4 x (lit< tt) ∙ ap (λ (r : ℕ). x / 4 % 2 * 4 + r) (halved 2 x (lit< tt))))
-
-module _ (l m : List ℕ) (h : AgreeIn actionBits l m) where
-  action-digit : (i : ℕ) → i < 5 → byte 1 l / 2 ^ (4 - i) % 2 ≡ byte 1 m / 2 ^ (4 - i) % 2
-  unfolding bit bitCount
-  action-digit i hi =
-      digit-is _ (omega arith) ∙ ap (λ (t : Bool). cond t 1 0) (sym (action-bit i hi l) ∙ h i hi ∙ action-bit i hi m) ∙ sym (digit-is _ (omega arith))
-
-  -- here the bytes may be any numbers: nothing above the action is read
-  action-same : action l ≡ action m
-  unfolding action numberIn
-  action-same =
-      let low : byte 1 l % 2 ≡ byte 1 m % 2 = omega (arith, action-digit 4 (lit< tt)) in
-      rw (div-one (byte 1 l), five-digits (byte 1 l), action-digit 0 (lit< tt), action-digit 1 (lit< tt), action-digit 2 (lit< tt), action-digit 3 (lit< tt), low)
-      (rw (div-one (byte 1 m), five-digits (byte 1 m)))
+action-same : (l m : List ℕ) → AgreeIn actionBits l m → action l ≡ action m
+unfolding action
+action-same l m h = within-number 1 4 5 l m (lit≤ tt) (lit≤ tt) h
 
 cdb-action : (l m : List ℕ) → byte 0 l ≡ byte 0 m → AgreeIn actionBits l m → entryOf l ≡ entryOf m
 unfolding entryOf

@@ -56,7 +56,7 @@ whole-bit at n k i l hi = ap₂ (λ (j p : ℕ). bit j (byte p l)) (omega arith)
 -- ---- the same bits make the same number
 
 -- here the bytes may be any numbers: nothing above the field is read
-within-number : (at top n : ℕ) (l m : List ℕ) → top ≤ 7 → n ≤ top + 1 → AgreeIn (within at top n) l m
+pub within-number : (at top n : ℕ) (l m : List ℕ) → top ≤ 7 → n ≤ top + 1 → AgreeIn (within at top n) l m
     → numberIn (within at top n) l ≡ numberIn (within at top n) m
 unfolding numberIn bitCount
 within-number at top n l m ht hn h =

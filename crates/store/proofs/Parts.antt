@@ -89,7 +89,7 @@ usable-passes : (s : Store) → T (usable s) → storeAnswer s ≡ Good
 unfolding storeRows
 usable-passes s u = usable-by (usable s) u
 
-passes-usable : (s : Store) → storeAnswer s ≡ Good → T (usable s)
+pub passes-usable : (s : Store) → storeAnswer s ≡ Good → T (usable s)
 unfolding storeRows refuses
 passes-usable s e = not-not (usable s) (false→T (not (usable s)) (row-fails Unusable _ _ tt e))
 

@@ -40,10 +40,12 @@
  *
  * Where the status is 02h the first 18 bytes of sense become fixed format
  * sense data: byte 0 70h, byte 2 the key, byte 7 0Ah, bytes 12 and 13 the
- * codes, others 0. Answers 2 and 5 say besides which field is wrong: byte 15
- * is C8h for the CDB, 88h for the parameter list, plus the number of the
- * field's highest bit (0 to 7); bytes 16 and 17 are its first byte. Otherwise
- * sense is untouched, as are its bytes past 18 always. An answer other than 0 leaves the store as it was.
+ * codes, others 0; but for answers 2 and 5, which point at the wrong field:
+ * byte 15 is C8h for the CDB, 88h for the parameter list, plus the number of
+ * the field's highest bit (0 to 7); bytes 16 and 17 hold the number of its
+ * first byte, counted from 0. With another status, or none, sense is untouched,
+ * as are its bytes past 18 always. An answer other than 0 leaves the store as
+ * it was.
  */
 
 #ifndef RIDGE_H

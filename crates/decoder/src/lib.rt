@@ -195,7 +195,7 @@ fn is_other(service: Service) -> bool
 }
 
 // The request of a CDB as long as its code has it: the control byte, then the fields of its row. The control byte and the service action are
-// asked for at once: a branch of its own for each slows what is served.
+// asked for at once: a branch of its own for each slows what is served. So the last arm is never reached.
 pub fn request(code: Code, cdb: &[u8]) -> Decoded
     requires { ⌜ (1 ≤ code .long) × (code .long ≤ 16) ⌝ }
     ensures { λ r. ⌜ r ≡ decoded (first (checkRows (codeChecks code) (now (cdb .entry)))) (askedBy (code .service) (now (cdb .entry))) ⌝ }

@@ -22,18 +22,19 @@ use Rattle.answers.specs.declared.Answer.{Answer}
 use Rattle.answers.specs.declared.Answer.the-variants.{Good, Refused, Conflict, Unusable, Short}
 use Rattle.answers.specs.Answers.{codesOf, numberOf, notListed, pointerMark, pointerByte, fixedFormat, senseAfter, invalidField, listField}
 use Rattle.answers.specs.Order.{Row, _if_, first, next, refuses, refusing, firstOf, refusingBy}
-use Rattle.answers.proofs.OrderLaws.{row-pass, row-end, row-fails, rows-after, next-refuses, next-refused, not-good}
+use Rattle.answers.proofs.OrderLaws.{row-pass, row-end, next-after, row-fails, rows-after, next-refuses, next-refused, not-good}
 use Rattle.forms.specs.declared.Code.{Code}
 use Rattle.forms.specs.declared.Entry.{Entry}
 use Rattle.forms.specs.declared.Entry.the-variants.{Listed, Unlisted}
 use Rattle.forms.specs.Forms.{actionBits, entryOf, Asked, nothing, asks, askedOf}
 use Rattle.forms.specs.Tests.{isUnlisted, codeRows, lengthRows, fieldRows}
 use Rattle.forms.proofs.Refusing.{field-refusing}
-use Rattle.store.specs.Store.{Store, Call, seenOf}
+use Rattle.store.specs.Store.{Store, Call, usable, seenOf}
 use Rattle.store.specs.Step.{callRows, ownRows, step, answerTo}
-use Rattle.store.proofs.Parts.{callAnswer, storeAnswer, codeAnswer, lengthAnswer, fieldAnswer, guardAnswer, ownAnswer, parts, from-fields}
+use Rattle.store.proofs.Parts.{callAnswer, storeAnswer, codeAnswer, lengthAnswer, fieldAnswer, guardAnswer, ownAnswer, parts, from-fields, cleared, itself-cleared}
 use Rattle.store.proofs.StoreLaws.{step-answer, step-seen}
 use Rattle.commands.proofs.StageLaws.{long-within}
+use Rattle.demands.specs.Contents.{byItself}
 use Rattle.demands.specs.Limits.{Heard}
 use Rattle.demands.specs.Pointed.{sksv, commandData, bpv, bitPointer, fieldPointer, PointsAt, withCdb, withList, AreBytes, LiesIn, Pointed, Alike, Place, unplaced, placed, placeOf, placeIn}
 use Rattle.demands.proofs.Fielded.{later, heard-call}
@@ -252,11 +253,11 @@ also-reaches s c cdb long same f = record {
 
 cdb-stays : (s : Store) (c : Call) (b : Bits) → step s c .seen .answer ≡ invalidField b
     → (cdb : List ℕ) → AreBytes (c .cdb) → AreBytes cdb → length cdb ≡ length (c .cdb)
-    → byte 0 cdb ≡ byte 0 (c .cdb) → AgreeIn actionBits (c .cdb) cdb → AgreeIn b (c .cdb) cdb
+    → entryOf cdb ≡ entryOf (c .cdb) → AgreeIn b (c .cdb) cdb
     → numberOf (step s (withCdb c cdb) .seen .answer) ≡ 2
 unfolding refuses
-cdb-stays s c b e cdb hl hm long code acts g =
-    let same = places-true .action (c .cdb) cdb (sym code) acts in
+cdb-stays s c b e cdb hl hm long entry g =
+    let same = sym entry in
     let refused = some-holds invalidField (c .cdb) cdb b tt g _ _ (places-true .cdb (c .cdb) cdb hl hm same) (field-refusing (entryOf cdb) cdb) (field-is s c b e) in
     ap numberOf (step-answer s (withCdb c cdb) ∙ fields-decide s (withCdb c cdb) (also-reaches s c cdb long same (two-reaches s c (says-two s c b e)))
     ∙ next-refuses (fieldAnswer (withCdb c cdb)) _ refused)
@@ -318,11 +319,18 @@ module _ (s : Store) (c : Call) (h : Heard s c) (code : Code) (e : entryOf (c .c
       step-answer s c ∙ from-fields s c (heard-call s c h some-byte) (h .store) code-passes length-passes
       ∙ ap (λ (a : Answer). next a (later s c)) w ∙ next-refuses (invalidField b) (later s c) tt
 
+list-due : (s : Store) (c : Call) → T (usable s) → byItself c ≡ Good → guardAnswer (s .unit) c ≡ Good → (b : Bits) → ownAnswer s c ≡ listField b
+    → step s c .seen .answer ≡ listField b
+unfolding byItself
+list-due s c u right free b w =
+    step-answer s c ∙ cleared s c (itself-cleared s c u right) ∙ next-after (guardAnswer (s .unit) c) (ownAnswer s c) free ∙ w
+
 pub pointed : Pointed step
 pointed = record {
   first-in-cdb = first-in-cdb;
   first-in-list = first-in-list;
   cdb-due = cdb-due;
+  list-due = list-due;
   cdb-named = cdb-named;
   list-named = list-named;
   cdb-told = cdb-told;

@@ -14,7 +14,7 @@ use lib.ListN.{length}
 use lib.Seq.{drop-at}
 use Rattle.fields.specs.Bytes.{zeros}
 use Rattle.fields.specs.Field.{byte, bit, field, bytes}
-use Rattle.fields.specs.Bits.{Bits, within, numberIn}
+use Rattle.fields.specs.Bits.{Bits, numberIn}
 use Rattle.fields.proofs.BytesLaws.{length-zeros}
 use Rattle.fields.proofs.FieldLaws.{field-drop, field-bytes, length-bytes}
 use Rattle.answers.specs.declared.Answer.{Answer}
@@ -31,7 +31,7 @@ use Rattle.forms.specs.declared.Form.{Form}
 use Rattle.forms.specs.declared.Service.the-variants.{Served}
 use Rattle.forms.specs.declared.Entry.{Entry}
 use Rattle.forms.specs.declared.Request.{Request}
-use Rattle.forms.specs.Forms.{two, four, eight, bytesOf, spanBits, form, action, takes, lines, listed, lookup, entryFor, entryOf, number, requestBy, askedBy, askedIn, askedOf, countIn}
+use Rattle.forms.specs.Forms.{protectionBits, two, four, eight, bytesOf, spanBits, form, action, takes, lines, listed, lookup, entryFor, entryOf, number, requestBy, askedBy, askedIn, askedOf, countIn}
 use Rattle.forms.specs.Tests.{codeRows, lengthRows, notZero, wrongIn, checkOf, fieldRows}
 use Rattle.forms.proofs.Fields.{testsOf}
 use Rattle.store.specs.Store.{Store, Call, Seen, withPool, leaves, seenOf}
@@ -52,10 +52,6 @@ transfer-tests Write t = refl
 transfer-tests WriteSame t = absurd t
 transfer-tests Unmap t = absurd t
 transfer-tests Status t = absurd t
-
--- "Byte 1 bits 7-5 not 0"
-abbrev pub protectionBits : Bits
-protectionBits = within 1 7 3
 
 unfoldable pub protectionIn : List ℕ → Bool
 protectionIn cdb = notZero (numberIn protectionBits cdb)

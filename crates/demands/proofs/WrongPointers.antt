@@ -12,7 +12,7 @@ use Rattle.fields.proofs.Tests.{and-l, and-r, by-equal, agree, agree-same}
 use Rattle.answers.specs.declared.Answer.the-variants.{Good}
 use Rattle.answers.specs.Answers.{codesOf, numberOf, invalidField, listField, notListed}
 use Rattle.rights.specs.Actions.{flagsByte}
-use Rattle.forms.specs.Forms.{actionBits, kindBits}
+use Rattle.forms.specs.Forms.{kindBits}
 use Rattle.demands.specs.Pointed.{commandData, AreBytes, withCdb, Pointed}
 use Rattle.demands.specs.WrongBuilds.{shown, showing}
 use Rattle.demands.specs.WrongPointers.{answers, typeForScope, sensed, listAsCdb, leftPlace, reserveCdb, reserves, registers, unknown}
@@ -51,10 +51,6 @@ right-bytes : AreBytes (reserveCdb 0x01)
 unfolding reserveCdb allBytes
 right-bytes = are-bytes (reserveCdb 0x01) tt
 
-same-action : AgreeIn actionBits (reserves 0x11 .cdb) (reserveCdb 0x01)
-unfolding meaning showing reserveCdb reserves bitIn agreeBelow agree
-same-action = agree-below 5 actionBits (reserveCdb 0x11) (reserveCdb 0x01) tt
-
 same-type : AgreeIn kindBits (reserves 0x11 .cdb) (reserveCdb 0x01)
 unfolding meaning showing reserveCdb reserves bitIn agreeBelow agree
 same-type = agree-below 4 kindBits (reserveCdb 0x11) (reserveCdb 0x01) tt
@@ -70,7 +66,7 @@ scope-passes = refl
 pub type-for-scope-fails : Pointed typeForScope → ⊥
 unfolding meaning showing reserveCdb reserves
 type-for-scope-fails p =
-    let law = p .cdb-stays shown (reserves 0x11) kindBits type-named (reserveCdb 0x01) wrong-bytes right-bytes refl refl same-action same-type in
+    let law = p .cdb-stays shown (reserves 0x11) kindBits type-named (reserveCdb 0x01) wrong-bytes right-bytes refl refl same-type in
     let same = sym (ap numberOf scope-passes) ∙ law in omega arith
 
 -- ---- a field of the list as one of the CDB

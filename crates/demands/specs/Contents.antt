@@ -4,11 +4,12 @@ use mathlib.Core.Path.{_≡_}
 use mathlib.Core.Logic.{_≢_}
 use mathlib.Core.Bool.{Bool, true, false, _&&_, _||_}
 use mathlib.Core.List.{List, [], _∷_, _++_}
-use Prim.Native.Nat.{ℕ, zero, suc, _+_, _-_, _/_, _%_, _≤_, _<_}
+use Prim.Native.Nat.{ℕ, zero, suc, _+_, _-_, _≤_, _<_}
 use lib.Dec.{T, eqb, leb, ltb}
 use lib.ListN.{length}
 use Rattle.fields.specs.Bytes.{zeros}
 use Rattle.fields.specs.Field.{byte, bit, bytes}
+use Rattle.fields.specs.Bits.{numberIn}
 use Rattle.answers.specs.declared.Answer.{Answer}
 use Rattle.answers.specs.declared.Answer.the-variants.{Good}
 use Rattle.answers.specs.Answers.{numberOf}
@@ -24,7 +25,7 @@ use Rattle.forms.specs.declared.Command.the-variants.{Moves}
 use Rattle.forms.specs.declared.Entry.{Entry}
 use Rattle.forms.specs.declared.Entry.the-variants.{Listed, Unlisted}
 use Rattle.forms.specs.declared.Request.{Request}
-use Rattle.forms.specs.Forms.{entryOf, asks, askedOf, countIn, listLengthIn}
+use Rattle.forms.specs.Forms.{protectionBits, entryOf, asks, askedOf, countIn, listLengthIn}
 use Rattle.forms.specs.Tests.{codeRows, lengthRows, fieldRows}
 use Rattle.store.specs.declared.Unit.{Unit}
 use Rattle.store.specs.Store.{Store, Call, Result, usable}
@@ -118,7 +119,7 @@ pub record SaysSame {m : Move} {c d : Call} (a : Asks m c) (b : Asks m d) : Type
   pub range : SameRange (a .request) (b .request)
   pub first-long : length (c .cdb) ≡ longOf (entryOf (c .cdb))
   pub second-long : length (d .cdb) ≡ longOf (entryOf (d .cdb))
-  pub flags : eqb (byte 1 (c .cdb) / 32 % 8) 0 ≡ eqb (byte 1 (d .cdb) / 32 % 8) 0
+  pub flags : eqb (numberIn protectionBits (c .cdb)) 0 ≡ eqb (numberIn protectionBits (d .cdb)) 0
   pub naca : bit 2 (control c) ≡ bit 2 (control d)
   pub nexus : c .nexus ≡ d .nexus
   pub dataOut : c .dataOut ≡ d .dataOut
@@ -126,7 +127,7 @@ pub record SaysSame {m : Move} {c d : Call} (a : Asks m c) (b : Asks m d) : Type
   pub sense : c .sense ≡ d .sense
 
 -- results that are the same but for the place of a wrong field, which Q-4 has told and each form has elsewhere: the same number, and where it is not 2
--- all that is seen, and the store. A 2 leaves the store and data-in as they were
+-- all that is seen, and the store. Where it is 2, demand 1 and `codes` of Pointed leave nothing else open
 pub record SameButPlace (x y : Result) : Type 0 where
   pub number : numberOf (x .seen .answer) ≡ numberOf (y .seen .answer)
   pub same : numberOf (x .seen .answer) ≢ 2 → x ≡ y

@@ -22,9 +22,10 @@ use Rattle.forms.specs.declared.Entry.the-variants.{Listed}
 use Rattle.forms.specs.declared.Request.{Request}
 use Rattle.forms.specs.Forms.{entryOf, actionBits, asks, askedOf}
 use Rattle.forms.specs.Tests.{checkRows, serviceChecks, fieldRows}
-use Rattle.store.specs.Store.{Store, Call}
-use Rattle.store.specs.Step.{ownRows}
+use Rattle.store.specs.Store.{Store, Call, usable}
+use Rattle.store.specs.Step.{guardRows, ownRows}
 use Rattle.demands.specs.History.{Build}
+use Rattle.demands.specs.Contents.{byItself}
 use Rattle.demands.specs.Limits.{Heard}
 
 -- ---- sense, as a host reads it; the names are SPC's
@@ -76,9 +77,11 @@ pub record Pointed (f : Build) : Type 0 where
   -- "The field is the first one wrong in 01's order": what is answered is the first row of the table that holds
   pub first-in-cdb : (s : Store) (c : Call) → numberOf (f s c .seen .answer) ≡ 2 → f s c .seen .answer ≡ first (fieldRows (entryOf (c .cdb)) (c .cdb))
   pub first-in-list : (s : Store) (c : Call) → numberOf (f s c .seen .answer) ≡ 5 → f s c .seen .answer ≡ first (ownRows (askedOf (c .cdb)) s c)
-  -- and so it is answered, where a call comes as far as its fields
+  -- and so it is answered, where a call comes as far as its fields, or as far as its list
   pub cdb-due : (s : Store) (c : Call) → Heard s c → (code : Code) → entryOf (c .cdb) ≡ Listed code → length (c .cdb) ≡ code .long
       → (b : Bits) → first (fieldRows (entryOf (c .cdb)) (c .cdb)) ≡ invalidField b → f s c .seen .answer ≡ invalidField b
+  pub list-due : (s : Store) (c : Call) → T (usable s) → byItself c ≡ Good → first (guardRows (askedOf (c .cdb)) (s .unit .rights) (c .nexus)) ≡ Good
+      → (b : Bits) → first (ownRows (askedOf (c .cdb)) s c) ≡ listField b → f s c .seen .answer ≡ listField b
   -- "For answers 2 and 5 fill sense bytes 15 to 17": each names a field, and sense points at it
   pub cdb-named : (s : Store) (c : Call) → numberOf (f s c .seen .answer) ≡ 2 → (b : Bits) × (f s c .seen .answer ≡ invalidField b)
   pub list-named : (s : Store) (c : Call) → numberOf (f s c .seen .answer) ≡ 5 → (b : Bits) × (f s c .seen .answer ≡ listField b)
@@ -87,11 +90,11 @@ pub record Pointed (f : Build) : Type 0 where
   -- the field is there: its bits lie within what was sent
   pub cdb-there : (s : Store) (c : Call) (b : Bits) → f s c .seen .answer ≡ invalidField b → LiesIn b (length (c .cdb))
   pub list-there : (s : Store) (c : Call) (b : Bits) → f s c .seen .answer ≡ listField b → LiesIn b (length (c .dataOut))
-  -- and it is the field that is at fault. Who leaves it as it is, and changes whatever else of the CDB but the operation code and service action, is
+  -- and it is the field that is at fault. Who leaves it as it is, and changes whatever else of the CDB but which command it is and its length, is
   -- answered 2 again
   pub cdb-stays : (s : Store) (c : Call) (b : Bits) → f s c .seen .answer ≡ invalidField b
       → (cdb : List ℕ) → AreBytes (c .cdb) → AreBytes cdb → length cdb ≡ length (c .cdb)
-      → byte 0 cdb ≡ byte 0 (c .cdb) → AgreeIn actionBits (c .cdb) cdb → AgreeIn b (c .cdb) cdb
+      → entryOf cdb ≡ entryOf (c .cdb) → AgreeIn b (c .cdb) cdb
       → numberOf (f s (withCdb c cdb) .seen .answer) ≡ 2
   -- who leaves the field of a list as it is, and changes whatever else of the list, its length too, is refused again
   pub list-stays : (s : Store) (c : Call) (b : Bits) → f s c .seen .answer ≡ listField b
@@ -105,7 +108,8 @@ pub record Pointed (f : Build) : Type 0 where
       → take 15 (f s c .seen .sense)
       ≡ 0x70 ∷ 0 ∷ codesOf (x .refusal) .key ∷ 0 ∷ 0 ∷ 0 ∷ 0 ∷ 0x0A ∷ 0 ∷ 0 ∷ 0 ∷ 0 ∷ codesOf (x .refusal) .asc ∷ codesOf (x .refusal) .ascq ∷ 0 ∷ []
 
--- ---- the places are true, of the table: a row's test depends on the bits of its field alone
+-- ---- the places are true, of the table: a row's test depends on the bits of its field alone. That no field is wider than its test is for the cases
+-- to show, which have each place as bytes
 
 -- the rows for two lists, one by one: they give the same answers, and where one names a field in which the lists agree, it holds for both or for
 -- neither
@@ -143,7 +147,7 @@ placeIn Short = unplaced
 unfoldable pub precedes : Place → Place → Bool
 precedes unplaced q = true
 precedes (placed byte top n) unplaced = true
-precedes (placed byte top n) (placed byte′ top′ n′) = eqb n′ 0 || (ltb byte byte′ || (eqb byte byte′ && ltb top′ top))
+precedes (placed byte top n) (placed byte′ top′ n′) = eqb n 0 || (eqb n′ 0 || (ltb byte byte′ || (eqb byte byte′ && ltb top′ top)))
 
 unfoldable pub precedesAll : Place → List Row → Bool
 precedesAll p [] = true

@@ -38,7 +38,7 @@ bitIn b i l = bit (7 - (7 - topBit b + i) % 8) (byte (firstByte b + (7 - topBit 
 abbrev pub AgreeIn : Bits → List ℕ → List ℕ → Type 0
 AgreeIn b l m = (i : ℕ) → i < bitCount b → bitIn b i l ≡ bitIn b i m
 
--- the bits of one byte are bits of that byte
+-- bits of one byte lie in it; a word of proofs
 unfoldable pub isPlace : Bits → Bool
 isPlace (within at top n) = leb top 7 && leb n (top + 1)
 isPlace (whole at n) = true

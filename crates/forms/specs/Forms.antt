@@ -148,6 +148,10 @@ number span cdb = numberIn (spanBits span) cdb
 abbrev pub pageBits : Bits
 pageBits = whole 2 1
 
+-- READ and WRITE: "Byte 1 bits 7-5"
+abbrev pub protectionBits : Bits
+protectionBits = within 1 7 3
+
 -- "Byte 2: scope high half, type low half"
 abbrev pub scopeBits : Bits
 scopeBits = within 2 7 4

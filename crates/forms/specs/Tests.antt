@@ -20,7 +20,7 @@ use Rattle.forms.specs.declared.Service.the-variants.{Served, Other}
 use Rattle.forms.specs.declared.Code.{Code}
 use Rattle.forms.specs.declared.Entry.{Entry}
 use Rattle.forms.specs.declared.Entry.the-variants.{Listed, Unlisted}
-use Rattle.forms.specs.Forms.{actionBits, spanBits, pageBits, scopeBits, kindBits}
+use Rattle.forms.specs.Forms.{actionBits, spanBits, pageBits, protectionBits, scopeBits, kindBits}
 
 -- ---- 1
 
@@ -76,7 +76,7 @@ checkOf Nothing size = check (whole 0 0) (λ n. false)
 checkOf Page size = check pageBits notZero
 checkOf VitalPage size = check pageBits (λ n. not (isOneOf n pages))
 -- READ and WRITE: "Byte 1 bits 7-5 not 0, or count above 128: 2."
-checkOf Protection size = check (within 1 7 3) notZero
+checkOf Protection size = check protectionBits notZero
 checkOf Count size = check (spanBits size) (λ n. ltb mostTransfer n)
 -- UNMAP: "byte 1 bit 0 (ANCHOR) set: 2"
 checkOf Anchor size = check (within 1 0 1) isSet

@@ -4,13 +4,13 @@ use mathlib.Core.Path.{_≡_, refl, sym, ap, _∙_, subst}
 use mathlib.Core.Logic.{_↔_, _≢_}
 use mathlib.Core.Bool.{Bool, true, false, not, _||_}
 use mathlib.Core.List.{List, [], _∷_}
-use Prim.Native.Nat.{ℕ, _-_, _≤_}
+use Prim.Native.Nat.{ℕ, _≤_}
 use native.Mathlib.Omega.{arith}
 use borrow.Author.Tests.{le-ltb, ne-eqb, eq-eqb}
 use lib.Dec.{T, eqb}
 use lib.ListN.{length}
 use Rattle.fields.specs.Field.{bit}
-use Rattle.fields.specs.Bits.{Bits, within, whole, numberIn}
+use Rattle.fields.specs.Bits.{Bits, whole, numberIn}
 use Rattle.answers.specs.declared.Answer.{Answer}
 use Rattle.answers.specs.declared.Answer.the-variants.{Good, Unusable}
 use Rattle.answers.specs.Answers.{notListed, invalidField, codesOf, numberOf}
@@ -28,7 +28,7 @@ use Rattle.forms.specs.declared.Command.the-variants.{Tells, Moves, Alters}
 use Rattle.forms.specs.declared.Span.{Span}
 use Rattle.forms.specs.declared.Request.{Request}
 use Rattle.forms.specs.Forms.{entryOf, number, requestBy, Asked, nothing, asks, askedOf}
-use Rattle.forms.specs.Tests.{isUnlisted, codeRows, lengthRows, isSet, Check, wrongIn, checkRows, checkOf, fieldRows}
+use Rattle.forms.specs.Tests.{isUnlisted, codeRows, lengthRows, isSet, Check, wrongIn, checkRows, checkOf, controlCheck, fieldRows}
 use Rattle.forms.proofs.Fields.{Row as RowOf, testsOf, row-long, move-checks, asked-row}
 use Rattle.store.specs.Store.{Store, Call}
 use Rattle.store.specs.Move.{readRows, writeRows, sameRows, unmapRows, statusRows, moveRows}
@@ -134,7 +134,7 @@ module _ {k : Command} {c : Call} (a : AsksFor k c) where
 
 -- the control byte's bit for NACA, in a CDB as long as its code has it
 abbrev pub nacaBits : Call → Bits
-nacaBits c = within (longOf (entryOf (c .cdb)) - 1) 2 1
+nacaBits c = controlCheck (longOf (entryOf (c .cdb))) .bits
 
 -- no byte, where there is no field to be wrong
 abbrev pub nowhere : Bits

@@ -1,6 +1,6 @@
 -- The places that answers 2 and 5 name are true: a row's test depends on the bits of its field alone, and the fields of a row stand in order.
 -- Assumes nothing.
-use mathlib.Core.Path.{_≡_, refl, ap, subst}
+use mathlib.Core.Path.{_≡_, refl, sym, ap, _∙_, subst}
 use mathlib.Core.Bool.{Bool, true, not, _&&_}
 use mathlib.Core.List.{List, [], _∷_, _++_}
 use Prim.Native.Nat.{ℕ, _+_, _-_}
@@ -54,18 +54,20 @@ agree-as : (b p : Bits) → firstByte b ≡ firstByte p → topBit b ≡ topBit 
 unfolding bitIn
 agree-as b p at top n l m h i hi = rw (at, top) (h i (omega arith))
 
--- so lists that agree in what an answer names agree in the field that it was made of
+-- so lists that agree in what an answer names agree in the field that it was made of, of a CDB or of a list
+module _ (named : Bits → Answer) (names : (b : Bits) → placeIn (named b) ≡ placed (firstByte b) (topBit b) (bitCount b)) where
+  named-same : (b p : Bits) (l m : List ℕ) → named b ≡ named p → AgreeIn p l m → AgreeIn b l m
+  named-same b p l m e =
+      let same : placed (firstByte b) (topBit b) (bitCount b) ≡ placed (firstByte p) (topBit p) (bitCount p) = sym (names b) ∙ ap placeIn e ∙ names p in
+      agree-as b p (cc) (cc) (cc) l m
+
 cdb-same : (b p : Bits) (l m : List ℕ) → invalidField b ≡ invalidField p → AgreeIn p l m → AgreeIn b l m
 unfolding placeIn placeOf
-cdb-same b p l m e =
-    let named : placed (firstByte b) (topBit b) (bitCount b) ≡ placed (firstByte p) (topBit p) (bitCount p) = ap placeIn e in
-    agree-as b p (cc) (cc) (cc) l m
+cdb-same = named-same invalidField (λ b. refl)
 
 list-same : (b p : Bits) (l m : List ℕ) → listField b ≡ listField p → AgreeIn p l m → AgreeIn b l m
 unfolding placeIn placeOf
-list-same b p l m e =
-    let named : placed (firstByte b) (topBit b) (bitCount b) ≡ placed (firstByte p) (topBit p) (bitCount p) = ap placeIn e in
-    agree-as b p (cc) (cc) (cc) l m
+list-same = named-same listField (λ b. refl)
 
 -- ---- the rows of a CDB
 

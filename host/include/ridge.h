@@ -1,11 +1,13 @@
 /*
- * ridge.h - the C interface of the proved library libridge.a, version 2.0.0
+ * ridge.h - the C interface of the proved library libridge.a, version 3.0.0
  *
  * One thinly provisioned direct access logical unit: blocks of 512 bytes,
  * unmapped blocks read as zeros. The caller lends all memory; the library
  * allocates nothing, keeps nothing between calls and has no global state.
  *
- * A STORE is three things the caller keeps:
+ * A STORE is four things the caller keeps:
+ *   format   of its sense data, enum ridge_format below: chosen when the store
+ *            is made, and changed by no call
  *   unit     the unit's record, struct ridge_unit below
  *   owners   one word of 64 bits per slot: 0 is free, otherwise the block
  *            address plus 1 of the block that lies in the slot
@@ -38,14 +40,26 @@
  *                               the one block) or list length, data-in than
  *                               the bytes returned
  *
- * Where the status is 02h the first 18 bytes of sense become fixed format
- * sense data: byte 0 70h, byte 2 the key, byte 7 0Ah, bytes 12 and 13 the
- * codes, others 0; but for answers 2 and 5, which point at the wrong field:
- * byte 15 is C8h for the CDB, 88h for the parameter list, plus the number of
- * the field's highest bit (0 to 7); bytes 16 and 17 hold the number of its
- * first byte, counted from 0. With another status, or none, sense is untouched,
- * as are its bytes past 18 always. An answer other than 0 leaves the store as
- * it was.
+ * SENSE. Where the status is 02h sense data is written, in the store's format:
+ * the key, the codes, and what else the answer has to tell. Answers 2 and 5
+ * POINT at the wrong field: by a byte that is C8h for the CDB, 88h for the
+ * parameter list, plus the number of the field's highest bit (0 to 7), and by
+ * two bytes with the number of its first byte, counted from 0. Answers 3 and 8
+ * tell an ADDRESS: the one in the CDB, of UNMAP that of the first descriptor
+ * that fails. Numbers have their most significant byte first.
+ *
+ *   RIDGE_FIXED: 18 bytes. Byte 0 is 70h, byte 2 the key, byte 7 0Ah, bytes 12
+ *   and 13 the codes, 15 to 17 the pointer, others 0. With an address up to
+ *   FFFF_FFFFh byte 0 is F0h (VALID) and bytes 3 to 6 are the address; a larger
+ *   one is not shown: byte 0 is 70h and they are 0, never a part of it.
+ *
+ *   RIDGE_DESCRIPTOR: 8, 16 or 20 bytes. Byte 0 is 72h, byte 1 the key, bytes 2
+ *   and 3 the codes, byte 7 how many bytes follow, others 0. Then come, of a
+ *   pointer, 02h 06h 00h 00h, its three bytes and 00h; of an address, 00h 0Ah
+ *   80h 00h and its eight bytes; of neither, nothing.
+ *
+ * With another status, or none, sense is untouched, as its bytes past those are
+ * always. An answer other than 0 leaves the store as it was.
  */
 
 #ifndef RIDGE_H
@@ -66,18 +80,20 @@ extern "C" {
  * place or meaning of one. Who keeps records keeps this number with them.
  *
  * From 1 to 2 the record took the place of twenty numbered words. No answer
- * changed; CHANGELOG.md says which word became which field.
+ * changed; CHANGELOG.md says which word became which field. From 2 to 3 both
+ * functions take the store's format of sense data; a store of interface 2 is
+ * one of interface 3 with the format RIDGE_FIXED.
  *
  * Of the version, the first number rises with the interface, the second when
  * commands or answers are added that leave old callers right, the third when
  * neither changes. CHANGELOG.md says what each version brought. The revision
  * 0100 that INQUIRY returns is the product's, and none of these.
  */
-#define RIDGE_INTERFACE 2
-#define RIDGE_VERSION_MAJOR 2
+#define RIDGE_INTERFACE 3
+#define RIDGE_VERSION_MAJOR 3
 #define RIDGE_VERSION_MINOR 0
 #define RIDGE_VERSION_PATCH 0
-#define RIDGE_VERSION "2.0.0"
+#define RIDGE_VERSION "3.0.0"
 
 /*
  * The most blocks and the most descriptors a host reads from the unit itself:
@@ -91,11 +107,22 @@ enum ridge_bound {
     RIDGE_STATUS_DESCRIPTORS = 32,/* most descriptors GET LBA STATUS tells */
     RIDGE_PLACES = 8,           /* registration places */
     RIDGE_NEXUS_LAST = 15,      /* nexus numbers are 0 to 15 */
-    RIDGE_SENSE_BYTES = 18      /* least size of a sense buffer */
+    RIDGE_SENSE_BYTES = 18,     /* least size of a sense buffer, fixed format */
+    RIDGE_DESCRIPTOR_SENSE_BYTES = 20 /* the same, descriptor format */
 };
 
 /* Capacity is 1 to this many blocks. */
 #define RIDGE_CAPACITY_LAST (UINT64_C(1) << 40)
+
+/*
+ * The formats of sense data, by their response codes. A store has one: it is
+ * given to ridge_fresh, kept with the store, and given to every ridge_execute.
+ * Any other number is part of no valid state: both functions answer 11.
+ */
+enum ridge_format {
+    RIDGE_FIXED = 0x70,
+    RIDGE_DESCRIPTOR = 0x72
+};
 
 /*
  * The record of a unit, 152 bytes. Each of them belongs to a field: there is no
@@ -103,12 +130,12 @@ enum ridge_bound {
  * A field counts in its whole width: a nexus of 2^32 is not nexus 0, a type of
  * 257 is not type 1.
  *
- * A valid state is: the capacity 1 to 2^40; no owner above the capacity, no two
- * slots of one block; a place is used exactly if its key is not 0, used places
- * have different nexuses up to 15, unused ones nexus 0; the type is 0 (none,
- * holder 0) or 1, 3, 5, 6 (holder is a registered nexus) or 7, 8 (holder 0,
- * somebody is registered). Every generation is valid. In any other state
- * ridge_execute answers 11.
+ * A valid state is: the format one of the two; the capacity 1 to 2^40; no owner
+ * above the capacity, no two slots of one block; a place is used exactly if its
+ * key is not 0, used places have different nexuses up to 15, unused ones nexus
+ * 0; the type is 0 (none, holder 0) or 1, 3, 5, 6 (holder is a registered
+ * nexus) or 7, 8 (holder 0, somebody is registered). Every generation is valid.
+ * In any other state ridge_execute answers 11.
  *
  * Numbers are in the machine's byte order. A file wants an order of its own:
  * the project's host/serve/store.c has one.
@@ -191,18 +218,21 @@ enum ridge_answer {
  * mapped, so none of them can be read).
  *
  *   capacity   blocks, 1 to 2^40
+ *   format     of its sense data, RIDGE_FIXED or RIDGE_DESCRIPTOR
  *   unit       written: the fresh record, whatever was there
  *   owners     written: all 0
  *   slots      words of owners, 1 to 128
  *
- * Answers 0, or 11 for bad bounds; then nothing is changed.
+ * Answers 0, or 11 for bad bounds or a format that is none; then nothing is
+ * changed.
  */
-uint64_t ridge_fresh(uint64_t capacity, struct ridge_unit *unit,
-                     uint64_t *owners, size_t slots);
+uint64_t ridge_fresh(uint64_t capacity, uint64_t format,
+                     struct ridge_unit *unit, uint64_t *owners, size_t slots);
 
 /*
  * Executes one command on a store.
  *
+ *   format                  the one with which the store was made
  *   unit                    the unit's record
  *   owners, slots           the map, 1 to 128 slots
  *   medium, medium_bytes    the blocks, exactly 512 x slots bytes
@@ -213,14 +243,16 @@ uint64_t ridge_fresh(uint64_t capacity, struct ridge_unit *unit,
  *                           are ignored
  *   data_in, data_in_bytes  room for what goes to the initiator; written only
  *                           on answer 0, and only its first *returned bytes
- *   sense, sense_bytes      room for sense data, at least 18 bytes
+ *   sense, sense_bytes      room for sense data: at least 18 bytes in the
+ *                           fixed format, 20 in the other; less is 11
  *   returned                written always: the bytes of data_in that are
  *                           returned, 0 on every refusal
  *
  * Returns the answer number. Status and sense follow from it by the table.
  */
-uint64_t ridge_execute(struct ridge_unit *unit, uint64_t *owners, size_t slots,
-                       uint8_t *medium, size_t medium_bytes, uint64_t nexus,
+uint64_t ridge_execute(uint64_t format, struct ridge_unit *unit,
+                       uint64_t *owners, size_t slots, uint8_t *medium,
+                       size_t medium_bytes, uint64_t nexus,
                        const uint8_t *cdb, size_t cdb_bytes,
                        const uint8_t *data_out, size_t data_out_bytes,
                        uint8_t *data_in, size_t data_in_bytes, uint8_t *sense,

@@ -3,6 +3,7 @@
 use mathlib.Core.Path.{_≡_, refl}
 use mathlib.Core.Bool.{Bool, true, false, true≢false}
 use mathlib.Core.List.{List, [], _∷_, _++_, map}
+use Prim.Native.Nat.{ℕ}
 use lib.Dec.{T}
 use Rattle.fields.specs.Bits.{Bits}
 use Rattle.order.specs.Order.{OneGood}
@@ -108,9 +109,9 @@ not-good = Laws.not-good one-good
 pub good-cases : {X : Type 0} (a : Answer) → (a ≡ Good → X) → (T (refuses a) → X) → X
 good-cases = Laws.good-cases one-good
 
--- ---- the eight refusals have the numbers 1 to 8, wherever they point
+-- ---- the eight refusals have the numbers 1 to 8, whatever they tell
 
-pub numbers-told : (b : Bits) →
-    map numberOf (notListed ∷ invalidField b ∷ outOfRange ∷ listLength ∷ listField b ∷ noPlace ∷ otherType ∷ noRoom ∷ []) ≡ 1 ∷ 2 ∷ 3 ∷ 4 ∷ 5 ∷ 6 ∷ 7 ∷ 8 ∷ []
+pub numbers-told : (b : Bits) (address : ℕ) →
+    map numberOf (notListed ∷ invalidField b ∷ outOfRange address ∷ listLength ∷ listField b ∷ noPlace ∷ otherType ∷ noRoom address ∷ []) ≡ 1 ∷ 2 ∷ 3 ∷ 4 ∷ 5 ∷ 6 ∷ 7 ∷ 8 ∷ []
 unfolding numberOf codesOf
-numbers-told b = refl
+numbers-told b address = refl

@@ -14,7 +14,7 @@ Row = RowOf Answer
 -- an answer that is not GOOD
 unfoldable pub refuses : Answer → Bool
 refuses Good = false
-refuses (Refused s) = true
+refuses (Refused refusal) = true
 refuses Conflict = true
 refuses Unusable = true
 refuses Short = true

@@ -17,7 +17,11 @@ use Rattle.answers.proofs.OrderLaws.{row-pass, row-stop, row-end}
 use Rattle.pool.specs.Pool.{Pool, readBlocks, writeBlocks, pool, roomFor}
 use Rattle.map.specs.Write.{Written, written, tryWrite}
 use Rattle.pool.proofs.Reading.{length-readBlocks}
-use Rattle.descriptors.specs.Descriptors.{dataLengthBits, considered, someFails, unmapAll}
+use Rattle.pool.specs.declared.Lba.{Lba}
+use Rattle.descriptors.specs.declared.Failing.{Failing}
+use Rattle.descriptors.specs.declared.Failing.the-variants.{At, Nothing}
+use Rattle.descriptors.specs.Descriptors.{dataLengthBits, considered, firstFailing, addressOf, someFails, unmapAll}
+use Rattle.descriptors.proofs.Takes.{some-told, none-told}
 use Rattle.store.specs.Move.{pastEnd, readRows, writeRows, unmapRows}
 use Rattle.reply.specs.Reply.{leaving}
 use Rattle.blocks.specs.Moved.{reads, writes, unmaps}
@@ -42,15 +46,15 @@ range-in capacity address count e h = let k : address + count ≤ capacity = ltb
 -- ---- READ: of the n blocks from x on
 
 module _ (capacity x n : ℕ) (p : Pool) (dataIn : List ℕ) where
-  pub read-range : (a : Answer) → a ≡ outOfRange → ltb capacity (x + n) ≡ true → plain a dataIn ≡ reads capacity p x n dataIn
+  pub read-range : (a : Answer) → a ≡ outOfRange x → ltb capacity (x + n) ≡ true → plain a dataIn ≡ reads capacity p x n dataIn
   unfolding readRows pastEnd refuses
-  read-range a e h = rw e (reply-refused _ outOfRange _ dataIn (row-stop outOfRange _ _ h) tt)
+  read-range a e h = rw e (reply-refused _ (outOfRange _) _ dataIn (row-stop (outOfRange _) _ _ h) tt)
 
   pub read-short : ltb capacity (x + n) ≡ false → length dataIn < 512 * n → plain Short dataIn ≡ reads capacity p x n dataIn
   unfolding readRows pastEnd refuses
   read-short h k =
       reply-refused _ Short _ dataIn
-      (row-pass outOfRange _ _ h ∙ row-stop Short _ _ (lt-ltb (length dataIn) (512 * n) k)) tt
+      (row-pass (outOfRange _) _ _ h ∙ row-stop Short _ _ (lt-ltb (length dataIn) (512 * n) k)) tt
 
   pub read-done : (after : List ℕ) → ltb capacity (x + n) ≡ false → 512 * n ≤ length dataIn → length (p .medium) ≡ 512 * length (p .owners)
       → after ≡ put dataIn 0 (readBlocks p x n)
@@ -58,23 +62,23 @@ module _ (capacity x n : ℕ) (p : Pool) (dataIn : List ℕ) where
   unfolding readRows pastEnd
   read-done after h k whole e =
       reply-done _ _ dataIn (512 * n) after
-      (row-pass outOfRange _ _ h ∙ row-pass Short _ _ (le-ltb (length dataIn) (512 * n) k) ∙ row-end)
+      (row-pass (outOfRange _) _ _ h ∙ row-pass Short _ _ (le-ltb (length dataIn) (512 * n) k) ∙ row-end)
       (sym (length-readBlocks p x n whole))
       e
 
 -- ---- WRITE: to the n blocks from x on
 
 module _ (capacity x n : ℕ) (p : Pool) (out : List ℕ) where
-  pub write-range : (a : Answer) → a ≡ outOfRange → ltb capacity (x + n) ≡ true → leaving a p ≡ writes capacity p x n out
+  pub write-range : (a : Answer) → a ≡ outOfRange x → ltb capacity (x + n) ≡ true → leaving a p ≡ writes capacity p x n out
   unfolding writeRows pastEnd refuses
-  write-range a e h = rw e (settles-refused _ outOfRange _ p (row-stop outOfRange _ _ h) tt)
+  write-range a e h = rw e (settles-refused _ (outOfRange _) _ p (row-stop (outOfRange _) _ _ h) tt)
 
   module _ (h : ltb capacity (x + n) ≡ false) where
     pub write-short : length out < 512 * n → leaving Short p ≡ writes capacity p x n out
     unfolding writeRows pastEnd refuses
     write-short k =
         settles-refused _ Short _ p
-        (row-pass outOfRange _ _ h ∙ row-stop Short _ _ (lt-ltb (length out) (512 * n) k)) tt
+        (row-pass (outOfRange _) _ _ h ∙ row-stop Short _ _ (lt-ltb (length out) (512 * n) k)) tt
 
     module _ (k : 512 * n ≤ length out) (done : Bool) (owners medium : List ℕ) (w : written done owners medium ≡ tryWrite p x n out) where
       had-room : done ≡ roomFor (p .owners) x n
@@ -89,20 +93,20 @@ module _ (capacity x n : ℕ) (p : Pool) (out : List ℕ) where
       unfolding writeRows pastEnd
       write-done e =
           settles-done _ _ p (pool owners medium)
-          (row-pass outOfRange _ _ h
+          (row-pass (outOfRange _) _ _ h
           ∙ row-pass Short _ _ (le-ltb (length out) (512 * n) k)
-          ∙ row-pass noRoom _ _ (ap not (sym had-room ∙ e))
+          ∙ row-pass (noRoom _) _ _ (ap not (sym had-room ∙ e))
           ∙ row-end)
           (became true e)
 
-      pub write-full : (a : Answer) → a ≡ noRoom → done ≡ false → leaving a (pool owners medium) ≡ writes capacity p x n out
+      pub write-full : (a : Answer) → a ≡ noRoom x → done ≡ false → leaving a (pool owners medium) ≡ writes capacity p x n out
       unfolding writeRows pastEnd refuses
       write-full a g e =
           rw (g, became false e)
-          (settles-refused _ noRoom _ p
-          (row-pass outOfRange _ _ h
+          (settles-refused _ (noRoom _) _ p
+          (row-pass (outOfRange _) _ _ h
           ∙ row-pass Short _ _ (le-ltb (length out) (512 * n) k)
-          ∙ row-stop noRoom _ _ (ap not (sym had-room ∙ e)))
+          ∙ row-stop (noRoom _) _ _ (ap not (sym had-room ∙ e)))
           tt)
 
 -- ---- UNMAP: n is the list length and m the descriptors considered
@@ -129,25 +133,33 @@ module _ (capacity n : ℕ) (out owners : List ℕ) where
           tt)
 
       module _ (l : m ≤ 16) where
-        pub unmap-range : (a : Answer) → a ≡ outOfRange → someFails capacity out 8 m ≡ true → leaving a owners ≡ unmaps capacity owners n out
+        -- the row of a list in which one fails tells the address of the first that does
+        first-told : (address : Lba) → firstFailing capacity out 8 m ≡ At address
+            → outOfRange (addressOf (firstFailing capacity out 8 (considered n out))) ≡ outOfRange (address .0)
+        unfolding addressOf
+        first-told address f = ap (λ (x : Failing). outOfRange (addressOf x)) (ap (firstFailing capacity out 8) (sym em) ∙ f)
+
+        pub unmap-range : (address : Lba) → firstFailing capacity out 8 m ≡ At address → (a : Answer) → a ≡ outOfRange (address .0)
+            → leaving a owners ≡ unmaps capacity owners n out
         unfolding unmapRows refuses
-        unmap-range a e t =
+        unmap-range address f a e =
             rw e
-            (settles-refused _ outOfRange _ owners
+            (settles-refused _ (outOfRange (address .0)) _ owners
             (row-pass listLength _ _ h
             ∙ row-pass Short _ _ (le-ltb (length out) n k)
             ∙ row-pass (listField dataLengthBits) _ _ (ap (ltb 16) (sym em) ∙ le-ltb 16 m l)
-            ∙ row-stop outOfRange _ _ (ap (someFails capacity out 8) (sym em) ∙ t))
+            ∙ row-stop (outOfRange _) _ _ (ap (someFails capacity out 8) (sym em) ∙ some-told capacity out 8 m address f)
+            ∙ first-told address f)
             tt)
 
-        pub unmap-done : (after : List ℕ) → someFails capacity out 8 m ≡ false → after ≡ unmapAll owners out 8 m
+        pub unmap-done : (after : List ℕ) → firstFailing capacity out 8 m ≡ Nothing → after ≡ unmapAll owners out 8 m
             → leaving Good after ≡ unmaps capacity owners n out
         unfolding unmapRows
-        unmap-done after t e =
+        unmap-done after f e =
             settles-done _ _ owners after
             (row-pass listLength _ _ h
             ∙ row-pass Short _ _ (le-ltb (length out) n k)
             ∙ row-pass (listField dataLengthBits) _ _ (ap (ltb 16) (sym em) ∙ le-ltb 16 m l)
-            ∙ row-pass outOfRange _ _ (ap (someFails capacity out 8) (sym em) ∙ t)
+            ∙ row-pass (outOfRange _) _ _ (ap (someFails capacity out 8) (sym em) ∙ none-told capacity out 8 m f)
             ∙ row-end)
             (e ∙ ap (unmapAll owners out 8) em)

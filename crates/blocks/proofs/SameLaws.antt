@@ -57,31 +57,31 @@ module _ (p : Pool) (a n : ℕ) (may : Bool) (block : List ℕ) where
     unfolding spreads
     spread-done t =
         rw (← e, f)
-        (settles-done _ _ p (pool owners medium) (row-pass noRoom _ _ (ap not (sym had-room ∙ t)) ∙ row-end) (became true t))
+        (settles-done _ _ p (pool owners medium) (row-pass (noRoom _) _ _ (ap not (sym had-room ∙ t)) ∙ row-end) (became true t))
 
-    pub spread-full : (r : Answer) → r ≡ noRoom → done ≡ false → leaving r (pool owners medium) ≡ spreads p a n may block
+    pub spread-full : (r : Answer) → r ≡ noRoom a → done ≡ false → leaving r (pool owners medium) ≡ spreads p a n may block
     unfolding spreads refuses
     spread-full r g t =
-        rw (← e, f, g, became false t) (settles-refused _ noRoom _ p (row-stop noRoom _ _ (ap not (sym had-room ∙ t))) tt)
+        rw (← e, f, g, became false t) (settles-refused _ (noRoom _) _ p (row-stop (noRoom _) _ _ (ap not (sym had-room ∙ t))) tt)
 
 -- ---- the whole: to the n blocks from x on
 
 module _ (capacity x n options : ℕ) (p : Pool) (out : List ℕ) where
-  pub same-range : (r : Answer) → r ≡ outOfRange → ltb capacity (x + n) ≡ true → leaving r p ≡ writesSame capacity p x n options out
+  pub same-range : (r : Answer) → r ≡ outOfRange x → ltb capacity (x + n) ≡ true → leaving r p ≡ writesSame capacity p x n options out
   unfolding sameRows pastEnd refuses
-  same-range r e h = rw e (settles-refused _ outOfRange _ p (row-stop outOfRange _ _ h) tt)
+  same-range r e h = rw e (settles-refused _ (outOfRange _) _ p (row-stop (outOfRange _) _ _ h) tt)
 
   module _ (h : ltb capacity (x + n) ≡ false) where
     -- where the block is there, the whole is what its part leaves
     part-is : (u : Bool) (short : Bool) → short ≡ false
         → cond u (leaving Good (unmapBlocks p x n))
-        (settles (first (noRoom if not (roomFor (p .owners) x n) ∷ [])) (writeBlocks p x n (copies n (blockSent options out))) p)
-        ≡ settles (first (outOfRange if ltb capacity (x + n) ∷ Short if short ∷ noRoom if (not u && not (roomFor (p .owners) x n)) ∷ []))
+        (settles (first (noRoom x if not (roomFor (p .owners) x n) ∷ [])) (writeBlocks p x n (copies n (blockSent options out))) p)
+        ≡ settles (first (outOfRange x if ltb capacity (x + n) ∷ Short if short ∷ noRoom x if (not u && not (roomFor (p .owners) x n)) ∷ []))
         (cond u (unmapBlocks p x n) (writeBlocks p x n (copies n (blockSent options out)))) p
     part-is true short k =
-        settles-done _ _ p _ (row-pass outOfRange _ _ h ∙ row-pass Short _ _ k ∙ row-pass noRoom _ _ refl ∙ row-end) refl
+        settles-done _ _ p _ (row-pass (outOfRange _) _ _ h ∙ row-pass Short _ _ k ∙ row-pass (noRoom _) _ _ refl ∙ row-end) refl
     part-is false short k =
-        ap (λ (a : Answer). settles a (writeBlocks p x n (copies n (blockSent options out))) p) (sym (row-pass outOfRange _ _ h ∙ row-pass Short _ _ k))
+        ap (λ (a : Answer). settles a (writeBlocks p x n (copies n (blockSent options out))) p) (sym (row-pass (outOfRange _) _ _ h ∙ row-pass Short _ _ k))
 
     whole : (v : Left Pool) (may : Bool) (block : List ℕ) → may ≡ bit 3 options → block ≡ blockSent options out
         → (not (hasNoData options) && ltb (length out) 512) ≡ false → v ≡ spreads p x n may block → v ≡ writesSame capacity p x n options out
@@ -99,7 +99,7 @@ module _ (capacity x n options : ℕ) (p : Pool) (out : List ℕ) where
       unfolding sameRows pastEnd hasNoData refuses
       same-short k =
           settles-refused _ Short _ p
-          (row-pass outOfRange _ _ h ∙ row-stop Short _ _ (rw (← b, t) (lt-ltb (length out) 512 k))) tt
+          (row-pass (outOfRange _) _ _ h ∙ row-stop Short _ _ (rw (← b, t) (lt-ltb (length out) 512 k))) tt
 
       pub same-block : (v : Left Pool) → 512 ≤ length out → v ≡ spreads p x n may (take 512 out) → v ≡ writesSame capacity p x n options out
       unfolding blockSent hasNoData

@@ -22,9 +22,9 @@ use Rattle.reply.proofs.ReplyLaws.{plain, reply-refused}
 use Rattle.blocks.specs.Moved.{tellsStatus}
 
 module _ (capacity : ℕ) (owners : List ℕ) (x : ℕ) where
-  pub status-range : (n : ℕ) (dataIn : List ℕ) (r : Answer) → r ≡ outOfRange → capacity ≤ x → plain r dataIn ≡ tellsStatus capacity owners x n dataIn
+  pub status-range : (n : ℕ) (dataIn : List ℕ) (r : Answer) → r ≡ outOfRange x → capacity ≤ x → plain r dataIn ≡ tellsStatus capacity owners x n dataIn
   unfolding statusRows refuses
-  status-range n dataIn r e h = rw e (reply-refused _ outOfRange _ dataIn (row-stop outOfRange _ _ (le-leb capacity x h)) tt)
+  status-range n dataIn r e h = rw e (reply-refused _ (outOfRange _) _ dataIn (row-stop (outOfRange _) _ _ (le-leb capacity x h)) tt)
 
   -- the page that is put together: m of its bytes are told
   module _ (m : ℕ) (lent page : List ℕ) (e : m ≡ length (statusData capacity owners x)) (whole : length lent ≡ 520)
@@ -48,4 +48,4 @@ module _ (capacity : ℕ) (owners : List ℕ) (x : ℕ) where
     unfolding statusRows statusTold
     status-given n dataIn v h g =
         g ∙ ap (λ (l : List ℕ). gives (take n l) dataIn) page-told
-        ∙ ap (λ (a : Answer). replyOf a (take n (statusData capacity owners x)) dataIn) (sym (row-pass outOfRange _ _ (lt-leb capacity x h)))
+        ∙ ap (λ (a : Answer). replyOf a (take n (statusData capacity owners x)) dataIn) (sym (row-pass (outOfRange _) _ _ (lt-leb capacity x h)))

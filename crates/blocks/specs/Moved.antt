@@ -37,7 +37,7 @@ writesSame capacity p address count options dataOut =
 unfoldable pub spreads : Pool → ℕ → ℕ → Bool → List ℕ → Left Pool
 spreads p a n mayUnmap block =
     cond (mayUnmap && areZeros block) (leaving Good (unmapBlocks p a n))
-    (settles (first (noRoom if not (roomFor (p .owners) a n) ∷ [])) (writeBlocks p a n (copies n block)) p)
+    (settles (first (noRoom a if not (roomFor (p .owners) a n) ∷ [])) (writeBlocks p a n (copies n block)) p)
 
 -- UNMAP by a list of n bytes: the answer, and the owners after it
 abbrev pub unmaps : ℕ → List ℕ → ℕ → List ℕ → Left (List ℕ)

@@ -49,7 +49,7 @@ fn spread(
     if map::write::write_same(owners, medium, lba, count, block) {
         Answer::Good
     } else {
-        answers::no_room()
+        answers::no_room(lba.0)
     }
 }
 
@@ -68,7 +68,7 @@ pub fn write_same(
         ≡ writesSame capacity (pool (now (owners .entry)) (now (medium .entry))) (lba .0) count options (now («data_out» .entry)) ⌝ }
 {
     if transfer::past_end(capacity, lba, count) {
-        return answers::out_of_range();
+        return answers::out_of_range(lba.0);
     }
     let blocks = count as usize;
     let may_unmap = numbers::bit(options, 3);

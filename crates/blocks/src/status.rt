@@ -15,7 +15,7 @@ pub fn status(capacity: u64, owners: &[u64], lba: Lba, allocation: u64, data_in:
         ≡ tellsStatus capacity (now (owners .entry)) (lba .0) allocation (now («data_in» .entry)) ⌝ }
 {
     if capacity <= lba.0 {
-        let answer = answers::out_of_range();
+        let answer = answers::out_of_range(lba.0);
         return Reply {
             answer,
             returned: 0,

@@ -34,7 +34,7 @@ pub fn read(
         ≡ reads capacity (pool (now (owners .entry)) (now (medium .entry))) (lba .0) count (now («data_in» .entry)) ⌝ }
 {
     if past_end(capacity, lba, count) {
-        let answer = answers::out_of_range();
+        let answer = answers::out_of_range(lba.0);
         return Reply {
             answer,
             returned: 0,
@@ -68,7 +68,7 @@ pub fn write(
         ≡ writes capacity (pool (now (owners .entry)) (now (medium .entry))) (lba .0) count (now («data_out» .entry)) ⌝ }
 {
     if past_end(capacity, lba, count) {
-        return answers::out_of_range();
+        return answers::out_of_range(lba.0);
     }
     let blocks = count as usize;
     if data_out.len() < BLOCK_BYTES * blocks {
@@ -77,6 +77,6 @@ pub fn write(
     if map::write::write_blocks(owners, medium, lba, blocks, data_out) {
         Answer::Good
     } else {
-        answers::no_room()
+        answers::no_room(lba.0)
     }
 }

@@ -8,6 +8,7 @@ ghost use Rattle.reply.specs.Reply.{leaving};
 ghost use Rattle.blocks.specs.Moved.{unmaps};
 use answers::Answer;
 use descriptors::DATA_LENGTH_BYTE;
+use descriptors::Failing;
 use descriptors::MOST_DESCRIPTORS;
 
 // Whether a list of this length breaks off within its header.
@@ -35,9 +36,11 @@ pub fn unmap(capacity: u64, owners: &mut [u64], length: u64, data_out: &[u8]) ->
     if MOST_DESCRIPTORS < count {
         return answers::list_field(DATA_LENGTH_BYTE, 7, 16);
     }
-    if descriptors::some_fails(capacity, data_out, count) {
-        return answers::out_of_range();
+    match descriptors::first_failing(capacity, data_out, count) {
+        Failing::At(lba) => answers::out_of_range(lba.0),
+        Failing::Nothing => {
+            descriptors::unmap_all(owners, data_out, count, capacity);
+            Answer::Good
+        }
     }
-    descriptors::unmap_all(owners, data_out, count, capacity);
-    Answer::Good
 }

@@ -10,11 +10,11 @@ use Rattle.store.specs.Step.{step}
 use Rattle.store.specs.Fresh.{FreshResult, fresh}
 use Rattle.reply.specs.Contract.{left, made}
 
-pub execute-only : (s : Store) (c : Call) (r q : Outcome) (owners owners′ medium medium′ dataIn dataIn′ sense sense′ : List ℕ)
-    → left r owners medium dataIn sense ≡ step s c → left q owners′ medium′ dataIn′ sense′ ≡ step s c
+pub execute-only : (format : ℕ) (s : Store) (c : Call) (r q : Outcome) (owners owners′ medium medium′ dataIn dataIn′ sense sense′ : List ℕ)
+    → left format r owners medium dataIn sense ≡ step s c → left format q owners′ medium′ dataIn′ sense′ ≡ step s c
     → (r ≡ q) × (owners ≡ owners′) × (medium ≡ medium′) × (dataIn ≡ dataIn′) × (sense ≡ sense′)
-execute-only s c r q owners owners′ medium medium′ dataIn dataIn′ sense sense′ e h =
-    let same : left r owners medium dataIn sense ≡ left q owners′ medium′ dataIn′ sense′ = e ∙ sym h in (
+execute-only format s c r q owners owners′ medium medium′ dataIn dataIn′ sense sense′ e h =
+    let same : left format r owners medium dataIn sense ≡ left format q owners′ medium′ dataIn′ sense′ = e ∙ sym h in (
       ap (λ (x : Result). record { answer = x .seen .answer; returned = x .seen .returned; unit = x .store .unit }) same,
       ap (λ (x : Result). x .store .pool .owners) same,
       ap (λ (x : Result). x .store .pool .medium) same,
@@ -22,9 +22,9 @@ execute-only s c r q owners owners′ medium medium′ dataIn dataIn′ sense se
       ap (λ (x : Result). x .seen .sense) same,
     )
 
-pub fresh-only : (capacity : ℕ) (before : List ℕ) (r q : Made) (owners owners′ : List ℕ)
-    → made r owners ≡ fresh capacity before → made q owners′ ≡ fresh capacity before → (r ≡ q) × (owners ≡ owners′)
-fresh-only capacity before r q owners owners′ e h =
+pub fresh-only : (capacity format : ℕ) (before : List ℕ) (r q : Made) (owners owners′ : List ℕ)
+    → made r owners ≡ fresh capacity format before → made q owners′ ≡ fresh capacity format before → (r ≡ q) × (owners ≡ owners′)
+fresh-only capacity format before r q owners owners′ e h =
     let same : made r owners ≡ made q owners′ = e ∙ sym h in (
       ap (λ (x : FreshResult). record { answer = x .answer; unit = x .unit }) same,
       ap (λ (x : FreshResult). x .owners) same,

@@ -46,36 +46,36 @@ unseen Unmap q capacity p c = refl
 unseen Status q capacity p c = refl
 
 -- and changes the pool alone
-whole-pool : (a : Answer) (bs : List ℕ) (u : Unit) (done kept : Pool) (dataIn : List ℕ)
-    → serving (replyOf a bs dataIn) (record { unit = u; pool = ifGood a done kept })
-    ≡ serves a bs (record { unit = u; pool = done }) (record { unit = u; pool = kept }) dataIn
+whole-pool : (a : Answer) (bs : List ℕ) (format : ℕ) (u : Unit) (done kept : Pool) (dataIn : List ℕ)
+    → serving (replyOf a bs dataIn) (record { format = format; unit = u; pool = ifGood a done kept })
+    ≡ serves a bs (record { format = format; unit = u; pool = done }) (record { format = format; unit = u; pool = kept }) dataIn
 unfolding serves leaves ifGoodBy refuses
-whole-pool Good bs u done kept dataIn = refl
-whole-pool (Refused x) bs u done kept dataIn = refl
-whole-pool Conflict bs u done kept dataIn = refl
-whole-pool Unusable bs u done kept dataIn = refl
-whole-pool Short bs u done kept dataIn = refl
+whole-pool Good bs format u done kept dataIn = refl
+whole-pool (Refused x) bs format u done kept dataIn = refl
+whole-pool Conflict bs format u done kept dataIn = refl
+whole-pool Unusable bs format u done kept dataIn = refl
+whole-pool Short bs format u done kept dataIn = refl
 
-module _ (k : Command) (q : Request) (u : Unit) (owners medium : List ℕ) (c : Call) where
+module _ (format : ℕ) (k : Command) (q : Request) (u : Unit) (owners medium : List ℕ) (c : Call) where
   pub tells-served : (t : Tell) (v : Replied) → k ≡ Tells t → v ≡ tells t q u (c .dataIn)
-      → serving v (storeOf u owners medium) ≡ servedBy k q (storeOf u owners medium) c
+      → serving v (storeOf format u owners medium) ≡ servedBy k q (storeOf format u owners medium) c
   unfolding servedBy commandRows commandData commandStore
-  tells-served t v e h = rw e (serves-reply _ _ (storeOf u owners medium) (c .dataIn) v h)
+  tells-served t v e h = rw e (serves-reply _ _ (storeOf format u owners medium) (c .dataIn) v h)
 
   pub alters-served : (a : Action) (r : Outcome) → k ≡ Alters a → r ≡ altersTo u (altered a q (u .rights) (c .nexus) (c .dataOut))
-      → served r owners medium (c .dataIn) ≡ servedBy k q (storeOf u owners medium) c
+      → served format r owners medium (c .dataIn) ≡ servedBy k q (storeOf format u owners medium) c
   unfolding servedBy commandRows commandData commandStore altered
   alters-served a r e h =
-      rw (e, h) (serves-part (λ (x : Rights). storeOf (withRights u x) owners medium) _ _ (u .rights) (c .dataIn))
+      rw (e, h) (serves-part (λ (x : Rights). storeOf format (withRights u x) owners medium) _ _ (u .rights) (c .dataIn))
 
   pub moves-served : (m : Move) (v : Replied) (owners′ medium′ : List ℕ) → k ≡ Moves m
       → moving v owners′ medium′ ≡ moves m q (u .capacity) (pool owners medium) (c .dataOut) (c .dataIn)
-      → serving v (storeOf u owners′ medium′) ≡ servedBy k q (storeOf u owners medium) c
+      → serving v (storeOf format u owners′ medium′) ≡ servedBy k q (storeOf format u owners medium) c
   unfolding servedBy commandRows commandData commandStore
   moves-served m v owners′ medium′ e h =
       rw e
-      (ap (λ (w : Moved). serving (w .reply) (record { unit = u; pool = w .after })) (h ∙ unseen m q (u .capacity) (pool owners medium) c)
-      ∙ whole-pool _ _ u _ (pool owners medium) (c .dataIn))
+      (ap (λ (w : Moved). serving (w .reply) (record { format = format; unit = u; pool = w .after })) (h ∙ unseen m q (u .capacity) (pool owners medium) c)
+      ∙ whole-pool _ _ format u _ (pool owners medium) (c .dataIn))
 
 -- ---- a command that counts blocks counts at most 128
 

@@ -7,7 +7,7 @@ use Prim.Native.Nat.{ℕ}
 use lib.Dec.{T}
 use Rattle.answers.specs.declared.Answer.{Answer}
 use Rattle.answers.specs.declared.Answer.the-variants.{Good, Refused, Conflict, Unusable, Short}
-use Rattle.answers.specs.Answers.{senseAfter}
+use Rattle.answers.specs.Sense.{senseAfter}
 use Rattle.answers.specs.Order.{Row, _if_, first, next, firstOf, ifGoodBy, refuses}
 use Rattle.answers.proofs.OrderLaws.{first-append, next-after, next-refuses}
 use Rattle.forms.specs.declared.Move.the-variants.{Read, Write, WriteSame, Unmap, Status}
@@ -83,8 +83,8 @@ module _ (e : Entry) (s : Store) (c : Call) where
 
 -- an answer that returns no bytes and leaves the store
 refused-result : (a : Answer) (s : Store) (c : Call) → T (refuses a) → (bs : List ℕ) (done : Store)
-    → left (bare a (s .unit)) (s .pool .owners) (s .pool .medium) (c .dataIn) (senseAfter a (c .sense))
-    ≡ record { seen = seenOf a bs c; store = leaves a done s }
+    → left (s .format) (bare a (s .unit)) (s .pool .owners) (s .pool .medium) (c .dataIn) (senseAfter (s .format) a (c .sense))
+    ≡ record { seen = seenOf (s .format) a bs c; store = leaves a done s }
 unfolding seenOf leaves ifGoodBy refuses senseAfter
 refused-result Good s c t bs done = absurd t
 refused-result (Refused x) s c t bs done = refl
@@ -94,18 +94,18 @@ refused-result Short s c t bs done = refl
 
 module _ (s : Store) (n : ℕ) (cdb out in′ sense : List ℕ) where
   step-refused : (a : Answer) → T (refuses a) → answerBy (entryOf cdb) s (callOf n cdb out in′ sense) ≡ a
-      → left (bare a (s .unit)) (s .pool .owners) (s .pool .medium) in′ (senseAfter a sense) ≡ step s (callOf n cdb out in′ sense)
+      → left (s .format) (bare a (s .unit)) (s .pool .owners) (s .pool .medium) in′ (senseAfter (s .format) a sense) ≡ step s (callOf n cdb out in′ sense)
   unfolding step stepBy
   step-refused a t e = rw e (refused-result a s (callOf n cdb out in′ sense) t _ _)
 
   pub step-unready : readyFor s (callOf n cdb [] [] sense) ≡ false
-      → left (bare Unusable (s .unit)) (s .pool .owners) (s .pool .medium) in′ sense ≡ step s (callOf n cdb out in′ sense)
+      → left (s .format) (bare Unusable (s .unit)) (s .pool .owners) (s .pool .medium) in′ sense ≡ step s (callOf n cdb out in′ sense)
   unfolding readyFor senseAfter refuses
   step-unready h = step-refused Unusable tt (answer-unready (entryOf cdb) s (callOf n cdb out in′ sense) h)
 
   module _ (h : readyFor s (callOf n cdb [] [] sense) ≡ true) where
-    pub step-wrong : (a : Answer) (sense′ : List ℕ) → askedAt (entryOf cdb) (s .unit .rights) n cdb ≡ Wrong a → sense′ ≡ senseAfter a sense
-        → left (bare a (s .unit)) (s .pool .owners) (s .pool .medium) in′ sense′ ≡ step s (callOf n cdb out in′ sense)
+    pub step-wrong : (a : Answer) (sense′ : List ℕ) → askedAt (entryOf cdb) (s .unit .rights) n cdb ≡ Wrong a → sense′ ≡ senseAfter (s .format) a sense
+        → left (s .format) (bare a (s .unit)) (s .pool .owners) (s .pool .medium) in′ sense′ ≡ step s (callOf n cdb out in′ sense)
     unfolding readyFor
     step-wrong a sense′ w k =
         rw k
@@ -130,7 +130,7 @@ module _ (s : Store) (n : ℕ) (cdb out in′ sense : List ℕ) where
           answer = v .reply .answer;
           returned = v .reply .returned;
           dataIn = v .reply .dataIn;
-          sense = senseAfter (v .reply .answer) sense;
+          sense = senseAfter (s .format) (v .reply .answer) sense;
         };
         store = v .store;
       }
@@ -152,9 +152,9 @@ module _ (s : Store) (n : ℕ) (cdb out in′ sense : List ℕ) where
           rw (answer-asks (entryOf cdb) s (callOf n cdb out in′ sense) q h w, asks-request (entryOf cdb) (s .unit .rights) n cdb q w)
 
       pub step-served : (r : Outcome) (owners medium dataIn sense′ : List ℕ)
-          → served r owners medium dataIn ≡ servedBy (q .command) q s (callOf n [] out in′ []) → sense′ ≡ senseAfter (r .answer) sense
-          → left r owners medium dataIn sense′ ≡ step s (callOf n cdb out in′ sense)
+          → served (s .format) r owners medium dataIn ≡ servedBy (q .command) q s (callOf n [] out in′ []) → sense′ ≡ senseAfter (s .format) (r .answer) sense
+          → left (s .format) r owners medium dataIn sense′ ≡ step s (callOf n cdb out in′ sense)
       step-served r owners medium dataIn sense′ e k =
-          ap (λ (l : List ℕ). left r owners medium dataIn l) k
+          ap (λ (l : List ℕ). left (s .format) r owners medium dataIn l) k
           ∙ ap sensed (e ∙ unseen (q .command))
           ∙ step-asks

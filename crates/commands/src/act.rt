@@ -1,6 +1,7 @@
 // The command that a call asks for, once nothing is left to be tested but what is its own.
 ghost use mathlib.Core.Path.{_≡_};
 ghost use mathlib.Core.List.{[]};
+ghost use Prim.Native.Nat.{ℕ};
 ghost use Rattle.forms.proofs.Fields.{Fits};
 ghost use Rattle.store.specs.Store.{withRights};
 ghost use Rattle.reply.specs.Contract.{storeOf, callOf};
@@ -59,6 +60,7 @@ fn alters(action: Action, request: Request, unit: Unit, nexus: u64, data_out: &[
     answered(answer, with_rights(unit, rights))
 }
 
+// No command looks at the format of sense: what it leaves is the same of every one.
 pub fn act(
     request: Request,
     unit: Unit,
@@ -69,10 +71,10 @@ pub fn act(
     data_in: &mut [u8],
 ) -> Outcome
     requires { ⌜ Bounded (unit .capacity) (now owners) (now medium) × Fits request ⌝ }
-    ensures { λ r. ⌜ served r (now (owners .exit)) (now (medium .exit)) (now («data_in» .exit))
+    ensures { λ r. ⌜ ((format : ℕ) → served format r (now (owners .exit)) (now (medium .exit)) (now («data_in» .exit))
         ≡ servedBy (request .command) request
-        (storeOf unit (now (owners .entry)) (now (medium .entry)))
-        (callOf nexus [] (now («data_out» .entry)) (now («data_in» .entry)) []) ⌝ }
+        (storeOf format unit (now (owners .entry)) (now (medium .entry)))
+        (callOf nexus [] (now («data_out» .entry)) (now («data_in» .entry)) [])) ⌝ }
 {
     let command = request.command;
     match command {

@@ -8,6 +8,8 @@ ghost use Rattle.store.specs.Fresh.{freshUnit, fresh};
 ghost use Rattle.reply.specs.Contract.{storeOf, callOf, left, made};
 ghost use Rattle.commands.specs.Served.{unmade};
 use answers::Answer;
+use answers::sense;
+use answers::sense::put_sense;
 use decoder::Decoded;
 use reply::Made;
 use reply::Outcome;
@@ -15,6 +17,7 @@ use store::Unit;
 
 // One call. Whatever is lent, it is answered.
 pub fn execute(
+    format: u64,
     unit: Unit,
     owners: &mut [u64],
     medium: &mut [u8],
@@ -24,24 +27,24 @@ pub fn execute(
     data_in: &mut [u8],
     sense: &mut [u8],
 ) -> Outcome
-    ensures { λ r. ⌜ left r (now (owners .exit)) (now (medium .exit)) (now («data_in» .exit)) (now (sense .exit))
+    ensures { λ r. ⌜ left format r (now (owners .exit)) (now (medium .exit)) (now («data_in» .exit)) (now (sense .exit))
         ≡ step
-        (storeOf unit (now (owners .entry)) (now (medium .entry)))
+        (storeOf format unit (now (owners .entry)) (now (medium .entry)))
         (callOf nexus (now (cdb .entry)) (now («data_out» .entry)) (now («data_in» .entry)) (now (sense .entry))) ⌝ }
 {
-    if !readiness::ready(unit, owners, medium, nexus, cdb, sense) {
+    if !readiness::ready(format, unit, owners, medium, nexus, cdb, sense) {
         return act::answered(Answer::Unusable, unit);
     }
     let asked = stages::asked(unit, nexus, cdb);
     match asked {
         Decoded::Wrong(answer) => {
-            answers::put_sense(answer, sense);
+            put_sense(format, answer, sense);
             act::answered(answer, unit)
         }
         Decoded::Asks(request) => {
             let outcome = act::act(request, unit, owners, medium, nexus, data_out, data_in);
             let answer = outcome.answer;
-            answers::put_sense(answer, sense);
+            put_sense(format, answer, sense);
             outcome
         }
     }
@@ -55,7 +58,7 @@ fn fresh_unit(capacity: u64) -> Unit
     Unit { capacity, rights }
 }
 
-// What bad bounds give: a unit without blocks, so that every call on it is refused.
+// What bad bounds and a format that is none give: a unit without blocks, so that every call on it is refused.
 fn refused() -> Made
     ensures { λ r. ⌜ r ≡ unmade ⌝ }
 {
@@ -66,11 +69,14 @@ fn refused() -> Made
     }
 }
 
-// A fresh store. The medium is neither taken nor touched; bad bounds leave the owners.
-pub fn fresh(capacity: u64, owners: &mut [u64]) -> Made
-    ensures { λ r. ⌜ made r (now (owners .exit)) ≡ fresh capacity (now (owners .entry)) ⌝ }
+// A fresh store. The medium is neither taken nor touched; bad bounds, and a format that is none, leave the owners.
+pub fn fresh(capacity: u64, format: u64, owners: &mut [u64]) -> Made
+    ensures { λ r. ⌜ made r (now (owners .exit)) ≡ fresh capacity format (now (owners .entry)) ⌝ }
 {
     if !readiness::capacity_ok(capacity) {
+        return refused();
+    }
+    if !sense::format_ok(format) {
         return refused();
     }
     if !readiness::slots_ok(owners.len()) {

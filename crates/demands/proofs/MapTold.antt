@@ -63,7 +63,7 @@ status-shut-out s c a u g =
 status-past-end : (s : Store) (c : Call) (a : Asks Status c) → Reaches s a → s .unit .capacity ≤ addressIn (a .request)
     → step s c .seen .answer ≡ outOfRange
 unfolding moveRows statusRows
-status-past-end s c a r h = rows-answer Status s c a r ∙ row-stop outOfRange _ _ (le-leb _ _ h)
+status-past-end s c a r h = rows-answer Status s c a r ∙ row-stop (outOfRange _) _ _ (le-leb _ _ h)
 
 pub map-told : MapTold step
 map-told = record { told = status-told; still = status-still; shut-out = status-shut-out; past-end = status-past-end }

@@ -213,7 +213,7 @@ module _ (l m : List ℕ) where
     unmap-pair capacity n =
         other-row listLength _ _ _ _ tt
         (other-row Short _ _ _ _ tt
-        (field-row dataLengthBits _ _ _ _ (λ h. rw (agree-number dataLengthBits l m tt hl hm h)) (other-row outOfRange _ _ _ _ tt pair-end)))
+        (field-row dataLengthBits _ _ _ _ (λ h. rw (agree-number dataLengthBits l m tt hl hm h)) (other-row (outOfRange _) _ _ _ _ tt pair-end)))
 
 module _ (c : Call) (m : List ℕ) (hl : AreBytes (c .dataOut)) (hm : AreBytes m) where
   move-pair : (k : Move) (q : Request) (capacity : ℕ) (p : Pool)
@@ -221,9 +221,9 @@ module _ (c : Call) (m : List ℕ) (hl : AreBytes (c .dataOut)) (hm : AreBytes m
   unfolding moveRows writeRows sameRows numberOf codesOf
   move-pair Read q capacity p = same-rows _ _ _
   move-pair Write q capacity p =
-      other-row _ _ outOfRange _ _ _ _ tt (other-row _ _ Short _ _ _ _ tt (other-row _ _ noRoom _ _ _ _ tt (pair-end _ _)))
+      other-row _ _ (outOfRange _) _ _ _ _ tt (other-row _ _ Short _ _ _ _ tt (other-row _ _ (noRoom _) _ _ _ _ tt (pair-end _ _)))
   move-pair WriteSame q capacity p =
-      other-row _ _ outOfRange _ _ _ _ tt (other-row _ _ Short _ _ _ _ tt (other-row _ _ noRoom _ _ _ _ tt (pair-end _ _)))
+      other-row _ _ (outOfRange _) _ _ _ _ tt (other-row _ _ Short _ _ _ _ tt (other-row _ _ (noRoom _) _ _ _ _ tt (pair-end _ _)))
   move-pair Unmap q capacity p = unmap-pair (c .dataOut) m hl hm capacity (listLengthIn q)
   move-pair Status q capacity p = same-rows _ _ _
 

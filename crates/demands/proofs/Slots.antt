@@ -64,10 +64,10 @@ rows-same : (m : Move) (q : Request) (capacity : ℕ) (x y : Pool) (c : Call) �
 unfolding moveRows writeRows sameRows statusRows statusTold roomFor
 rows-same Read q capacity x y c l = refl
 rows-same Write q capacity x y c l =
-    behind outOfRange _ _ _ (behind Short _ _ _
+    behind (outOfRange _) _ _ _ (behind Short _ _ _
     (ap₂ (λ (m n : ℕ). first (noRoom if not (leb m n) ∷ [])) (alike-unmapped x y l (q .address .0) (countIn q)) (l .frees)))
 rows-same WriteSame q capacity x y c l =
-    behind outOfRange _ _ _ (behind Short _ _ _
+    behind (outOfRange _) _ _ _ (behind Short _ _ _
     (ap₂ (λ (m n : ℕ). first (noRoom if (not (unmapsSame (q .options) (c .dataOut)) && not (leb m n)) ∷ []))
     (alike-unmapped x y l (q .address .0) (countIn q)) (l .frees)))
 rows-same Unmap q capacity x y c l = refl

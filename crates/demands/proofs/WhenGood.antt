@@ -71,12 +71,12 @@ module _ (s : Store) (c : Call) (a : Asks Read c) (r : Reaches s a) where
   -- "3": the range ends past the capacity
   pub read-past-end : s .unit .capacity < addressIn (a .request) + countIn (a .request) → step s c .seen .answer ≡ outOfRange
   unfolding moveRows readRows pastEnd
-  read-past-end h = rows-answer Read s c a r ∙ row-stop outOfRange _ _ (lt-ltb _ _ h)
+  read-past-end h = rows-answer Read s c a r ∙ row-stop (outOfRange _) _ _ (lt-ltb _ _ h)
 
   -- then "12": data-in is too short
   pub read-short : Inside s (a .request) → length (c .dataIn) < 512 * countIn (a .request) → step s c .seen .answer ≡ Short
   unfolding moveRows readRows pastEnd
-  read-short h l = rows-answer Read s c a r ∙ row-pass outOfRange _ _ (le-ltb _ _ h) ∙ row-stop Short _ _ (lt-ltb _ _ l)
+  read-short h l = rows-answer Read s c a r ∙ row-pass (outOfRange _) _ _ (le-ltb _ _ h) ∙ row-stop Short _ _ (lt-ltb _ _ l)
 
   -- GOOD exactly where neither holds
   pub read-good : IsGood s c ↔ (Inside s (a .request) × (512 * countIn (a .request) ≤ length (c .dataIn)))
@@ -88,19 +88,19 @@ module _ (s : Store) (c : Call) (a : Asks Read c) (r : Reaches s a) where
 module _ (s : Store) (c : Call) (a : Asks Write c) (r : Reaches s a) where
   pub write-past-end : s .unit .capacity < addressIn (a .request) + countIn (a .request) → step s c .seen .answer ≡ outOfRange
   unfolding moveRows writeRows pastEnd
-  write-past-end h = rows-answer Write s c a r ∙ row-stop outOfRange _ _ (lt-ltb _ _ h)
+  write-past-end h = rows-answer Write s c a r ∙ row-stop (outOfRange _) _ _ (lt-ltb _ _ h)
 
   pub write-short : Inside s (a .request) → length (c .dataOut) < 512 * countIn (a .request) → step s c .seen .answer ≡ Short
   unfolding moveRows writeRows pastEnd
-  write-short h l = rows-answer Write s c a r ∙ row-pass outOfRange _ _ (le-ltb _ _ h) ∙ row-stop Short _ _ (lt-ltb _ _ l)
+  write-short h l = rows-answer Write s c a r ∙ row-pass (outOfRange _) _ _ (le-ltb _ _ h) ∙ row-stop Short _ _ (lt-ltb _ _ l)
 
   -- "8": more unmapped blocks than free slots
   pub write-no-room : Inside s (a .request) → 512 * countIn (a .request) ≤ length (c .dataOut)
       → free (s .pool .owners) < unmapped (s .pool .owners) (addressIn (a .request)) (countIn (a .request)) → step s c .seen .answer ≡ noRoom
   unfolding moveRows writeRows pastEnd roomFor
   write-no-room h l n =
-      rows-answer Write s c a r ∙ row-pass outOfRange _ _ (le-ltb _ _ h) ∙ row-pass Short _ _ (le-ltb _ _ l)
-      ∙ row-stop noRoom _ _ (ap not (lt-leb _ _ n))
+      rows-answer Write s c a r ∙ row-pass (outOfRange _) _ _ (le-ltb _ _ h) ∙ row-pass Short _ _ (le-ltb _ _ l)
+      ∙ row-stop (noRoom _) _ _ (ap not (lt-leb _ _ n))
 
   pub write-good : IsGood s c ↔ (Inside s (a .request) × (512 * countIn (a .request) ≤ length (c .dataOut)) × Room s (a .request))
   unfolding moveRows

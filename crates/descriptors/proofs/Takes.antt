@@ -107,6 +107,14 @@ some-fails-is capacity list at (suc n) = at-either (fails capacity (descriptorAt
     at-either true e = refl
     at-either false e = e
 
+pub some-told : (capacity : ℕ) (list : List ℕ) (at n : ℕ) (address : Lba) → firstFailing capacity list at n ≡ At address → someFails capacity list at n ≡ true
+unfolding isAt
+some-told capacity list at n address e = some-fails-is capacity list at n ∙ ap isAt e
+
+pub none-told : (capacity : ℕ) (list : List ℕ) (at n : ℕ) → firstFailing capacity list at n ≡ Nothing → someFails capacity list at n ≡ false
+unfolding isAt
+none-told capacity list at n e = some-fails-is capacity list at n ∙ ap isAt e
+
 -- what is told is the address of one that fails, and none before it does
 abbrev pub IsFirst : ℕ → List ℕ → ℕ → ℕ → Lba → Type 0
 IsFirst capacity list at n address =

@@ -37,6 +37,11 @@ firstFailing capacity list at zero = Nothing
 firstFailing capacity list at (suc n) =
     cond (fails capacity (descriptorAt list at)) (At (descriptorAt list at .address)) (firstFailing capacity list (at + 16) n)
 
+-- Q-8: "or for UNMAP that of the first failing descriptor": its address; 0 where none fails
+unfoldable pub addressOf : Failing → ℕ
+addressOf (At address) = address .0
+addressOf Nothing = 0
+
 -- whether one is told
 unfoldable pub isAt : Failing → Bool
 isAt (At address) = true

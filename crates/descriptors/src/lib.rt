@@ -129,17 +129,6 @@ pub fn first_failing(capacity: u64, list: &[u8], count: usize) -> Failing
     Failing::Nothing
 }
 
-// Whether one of the descriptors reaches past the capacity.
-pub fn some_fails(capacity: u64, list: &[u8], count: usize) -> bool
-    requires { ⌜ count ≤ mostDescriptors ⌝ }
-    ensures { λ r. ⌜ r ≡ someFails capacity (now (list .entry)) 8 count ⌝ }
-{
-    match first_failing(capacity, list, count) {
-        Failing::At(_) => true,
-        Failing::Nothing => false,
-    }
-}
-
 // Unmaps the blocks of one descriptor. The bound keeps the range's end from wrapping.
 fn unmap_one(owners: &mut [u64], descriptor: Descriptor)
     requires { ⌜ descriptor .address .0 + descriptor .count ≤ mostBlocks ⌝ }

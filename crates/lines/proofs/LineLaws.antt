@@ -50,17 +50,17 @@ refusal-most : (x : Refusal) → codesOf x .number ≤ 12
 unfolding codesOf
 refusal-most NotListed = omega arith
 refusal-most (InvalidField at top n) = omega arith
-refusal-most OutOfRange = omega arith
+refusal-most (OutOfRange address) = omega arith
 refusal-most ListLength = omega arith
 refusal-most (ListField at top n) = omega arith
 refusal-most NoPlace = omega arith
 refusal-most OtherType = omega arith
-refusal-most NoRoom = omega arith
+refusal-most (NoRoom address) = omega arith
 
 pub number-most : (a : Answer) → numberOf a ≤ 12
 unfolding numberOf
 number-most Good = omega arith
-number-most (Refused s) = refusal-most (s .refusal)
+number-most (Refused refusal) = refusal-most refusal
 number-most Conflict = omega arith
 number-most Unusable = omega arith
 number-most Short = omega arith

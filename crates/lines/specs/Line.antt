@@ -25,7 +25,7 @@ codesText k = hex (k .key ∷ k .asc ∷ k .ascq ∷ [])
 
 unfoldable pub senseText : Answer → List ℕ
 senseText Good = []
-senseText (Refused s) = codesText (codesOf (s .refusal))
+senseText (Refused refusal) = codesText (codesOf refusal)
 senseText Conflict = []
 senseText Unusable = []
 senseText Short = []

@@ -9,7 +9,7 @@ ghost use Rattle.text.specs.Puts.{Puts};
 ghost use Rattle.lines.specs.Line.{shownBytes, statusText, codesText, senseText, dataText, lineOf};
 ghost use Rattle.lines.specs.Most.{numbersBelow, lineMost};
 use answers::Answer;
-use answers::Sense;
+use answers::Refusal;
 use answers::Status;
 
 // 01: "the first 32 of them".
@@ -51,11 +51,10 @@ fn put_status(out: &mut [u8], at: usize, answer: Answer) -> usize
     put_status_text(out, next, answers::status_of(answer))
 }
 
-fn put_codes(out: &mut [u8], at: usize, sense: Sense) -> usize
+fn put_codes(out: &mut [u8], at: usize, refusal: Refusal) -> usize
     requires { ⌜ at + 6 ≤ length (now out) ⌝ }
-    ensures { λ r. ⌜ (Puts (codesText (codesOf (sense .refusal))) (now (out .entry)) at (now (out .exit)) r) × (r ≤ at + 6) ⌝ }
+    ensures { λ r. ⌜ (Puts (codesText (codesOf refusal)) (now (out .entry)) at (now (out .exit)) r) × (r ≤ at + 6) ⌝ }
 {
-    let refusal = sense.refusal;
     let codes = answers::codes_of(refusal);
     text::put_hex(out, at, &[codes.key, codes.asc, codes.ascq])
 }
@@ -65,7 +64,7 @@ fn put_sense_text(out: &mut [u8], at: usize, answer: Answer) -> usize
     ensures { λ r. ⌜ (Puts (senseText answer) (now (out .entry)) at (now (out .exit)) r) × (r ≤ at + 6) ⌝ }
 {
     match answer {
-        Answer::Refused(sense) => put_codes(out, at, sense),
+        Answer::Refused(refusal) => put_codes(out, at, refusal),
         Answer::Good => at,
         Answer::Conflict => at,
         Answer::Unusable => at,

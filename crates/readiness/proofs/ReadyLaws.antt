@@ -8,6 +8,7 @@ use native.Mathlib.Omega.{arith}
 use lib.Dec.{T, eqb, leb, ltb, leb→le, eqb→eq, nltb→le}
 use lib.ListN.{length}
 use Rattle.fields.proofs.Tests.{and-l, and-r, true→T, T-true}
+use Rattle.answers.specs.Sense.{formatOk, senseBytes}
 use Rattle.pool.specs.declared.Slot.{Slot}
 use Rattle.pool.specs.declared.Checked.{Checked}
 use Rattle.pool.specs.declared.Checked.the-variants.{Valid, Beyond, Clash}
@@ -21,14 +22,16 @@ use Rattle.reply.specs.Contract.{storeOf, callOf}
 use Rattle.reply.specs.Reply.{Bounded}
 use Rattle.readiness.specs.Ready.{readyFor}
 
-module _ (u : Unit) (owners medium : List ℕ) (t : T (usable (storeOf u owners medium))) where
-  unit-part : T (unitOk u)
+module _ (format : ℕ) (u : Unit) (owners medium : List ℕ) (t : T (usable (storeOf format u owners medium))) where
+  rest-part : T (unitOk u && poolOk (u .capacity) (record { owners = owners; medium = medium }))
   unfolding usable
-  unit-part = and-l (unitOk u) (poolOk (u .capacity) (record { owners = owners; medium = medium })) t
+  rest-part = and-r (formatOk format) (unitOk u && poolOk (u .capacity) (record { owners = owners; medium = medium })) t
+
+  unit-part : T (unitOk u)
+  unit-part = and-l (unitOk u) (poolOk (u .capacity) (record { owners = owners; medium = medium })) rest-part
 
   pool-part : T (poolOk (u .capacity) (record { owners = owners; medium = medium }))
-  unfolding usable
-  pool-part = and-r (unitOk u) (poolOk (u .capacity) (record { owners = owners; medium = medium })) t
+  pool-part = and-r (unitOk u) (poolOk (u .capacity) (record { owners = owners; medium = medium })) rest-part
 
   capacity-part : T (capacityOk (u .capacity))
   unfolding unitOk
@@ -67,18 +70,18 @@ third-part false true d u e = absurd (false≢true e)
 third-part false false true u e = absurd (false≢true e)
 third-part false false false u e = tt
 
-module _ (u : Unit) (owners medium : List ℕ) (n : ℕ) (cdb sense : List ℕ) (e : readyFor (storeOf u owners medium) (callOf n cdb [] [] sense) ≡ true) where
+module _ (format : ℕ) (u : Unit) (owners medium : List ℕ) (n : ℕ) (cdb sense : List ℕ) (e : readyFor (storeOf format u owners medium) (callOf n cdb [] [] sense) ≡ true) where
   pub ready-bounded : Bounded (u .capacity) owners medium
   unfolding readyFor
   ready-bounded =
-      usable-bounded u owners medium
-      (last-part (ltb 15 n) (eqb (length cdb) 0) (ltb (length sense) 18) (usable (storeOf u owners medium)) e)
+      usable-bounded format u owners medium
+      (last-part (ltb 15 n) (eqb (length cdb) 0) (ltb (length sense) (senseBytes format)) (usable (storeOf format u owners medium)) e)
 
-  pub ready-sense : 18 ≤ length sense
+  pub ready-sense : senseBytes format ≤ length sense
   unfolding readyFor
   ready-sense =
-      nltb→le (length sense) 18
-      (third-part (ltb 15 n) (eqb (length cdb) 0) (ltb (length sense) 18) (usable (storeOf u owners medium)) e)
+      nltb→le (length sense) (senseBytes format)
+      (third-part (ltb 15 n) (eqb (length cdb) 0) (ltb (length sense) (senseBytes format)) (usable (storeOf format u owners medium)) e)
 
 -- ---- the tests one after another
 
@@ -147,42 +150,53 @@ module _ (capacity : ℕ) (owners medium : List ℕ) where
 
 -- ---- all of them, over plain tests
 
-module _ (a b d u p : Bool) where
-  stop-1 : a ≡ true → false ≡ (not a && (not b && (not d && (u && p))))
+module _ (a b d f u p : Bool) where
+  stop-1 : a ≡ true → false ≡ (not a && (not b && (not d && (f && (u && p)))))
   stop-1 e = rw e
 
-  stop-2 : b ≡ true → false ≡ (not a && (not b && (not d && (u && p))))
+  stop-2 : b ≡ true → false ≡ (not a && (not b && (not d && (f && (u && p)))))
   stop-2 e = rw e (and-second (not a) false refl)
 
-  stop-3 : d ≡ true → false ≡ (not a && (not b && (not d && (u && p))))
+  stop-3 : d ≡ true → false ≡ (not a && (not b && (not d && (f && (u && p)))))
   stop-3 e = rw e (and-second (not a) (not b && false) (sym (and-second (not b) false refl)))
 
-  stop-4 : u ≡ false → false ≡ (not a && (not b && (not d && (u && p))))
-  stop-4 e =
+  -- whatever the first three say
+  stop-behind : (f && (u && p)) ≡ false → false ≡ (not a && (not b && (not d && (f && (u && p)))))
+  stop-behind e =
       rw e
       (and-second (not a) (not b && (not d && false)) (sym (and-second (not b) (not d && false) (sym (and-second (not d) false refl)))))
 
-  pass-all : a ≡ false → b ≡ false → d ≡ false → u ≡ true → p ≡ (not a && (not b && (not d && (u && p))))
-  pass-all e f g h = rw (e, f, g, h)
+  stop-4 : f ≡ false → false ≡ (not a && (not b && (not d && (f && (u && p)))))
+  stop-4 e = stop-behind (sym (and-false f (u && p) e))
+
+  stop-5 : u ≡ false → false ≡ (not a && (not b && (not d && (f && (u && p)))))
+  stop-5 e = stop-behind (sym (and-second f (u && p) (sym (and-false u p e))))
+
+  pass-all : a ≡ false → b ≡ false → d ≡ false → f ≡ true → u ≡ true → p ≡ (not a && (not b && (not d && (f && (u && p)))))
+  pass-all e g h i j = rw (e, g, h, i, j)
 
 module _ (s : Store) (c : Call) where
   pub ready-nexus : ltb 15 (c .nexus) ≡ true → false ≡ readyFor s c
   unfolding readyFor usable
-  ready-nexus e = stop-1 (ltb 15 (c .nexus)) (eqb (length (c .cdb)) 0) (ltb (length (c .sense)) 18) (unitOk (s .unit)) (poolOk (s .unit .capacity) (s .pool)) e
+  ready-nexus e = stop-1 (ltb 15 (c .nexus)) (eqb (length (c .cdb)) 0) (ltb (length (c .sense)) (senseBytes (s .format))) (formatOk (s .format)) (unitOk (s .unit)) (poolOk (s .unit .capacity) (s .pool)) e
 
   pub ready-empty : eqb (length (c .cdb)) 0 ≡ true → false ≡ readyFor s c
   unfolding readyFor usable
-  ready-empty e = stop-2 (ltb 15 (c .nexus)) (eqb (length (c .cdb)) 0) (ltb (length (c .sense)) 18) (unitOk (s .unit)) (poolOk (s .unit .capacity) (s .pool)) e
+  ready-empty e = stop-2 (ltb 15 (c .nexus)) (eqb (length (c .cdb)) 0) (ltb (length (c .sense)) (senseBytes (s .format))) (formatOk (s .format)) (unitOk (s .unit)) (poolOk (s .unit .capacity) (s .pool)) e
 
-  pub ready-short : ltb (length (c .sense)) 18 ≡ true → false ≡ readyFor s c
+  pub ready-short : ltb (length (c .sense)) (senseBytes (s .format)) ≡ true → false ≡ readyFor s c
   unfolding readyFor usable
-  ready-short e = stop-3 (ltb 15 (c .nexus)) (eqb (length (c .cdb)) 0) (ltb (length (c .sense)) 18) (unitOk (s .unit)) (poolOk (s .unit .capacity) (s .pool)) e
+  ready-short e = stop-3 (ltb 15 (c .nexus)) (eqb (length (c .cdb)) 0) (ltb (length (c .sense)) (senseBytes (s .format))) (formatOk (s .format)) (unitOk (s .unit)) (poolOk (s .unit .capacity) (s .pool)) e
+
+  pub ready-format : formatOk (s .format) ≡ false → false ≡ readyFor s c
+  unfolding readyFor usable
+  ready-format e = stop-4 (ltb 15 (c .nexus)) (eqb (length (c .cdb)) 0) (ltb (length (c .sense)) (senseBytes (s .format))) (formatOk (s .format)) (unitOk (s .unit)) (poolOk (s .unit .capacity) (s .pool)) e
 
   pub ready-unit : unitOk (s .unit) ≡ false → false ≡ readyFor s c
   unfolding readyFor usable
-  ready-unit e = stop-4 (ltb 15 (c .nexus)) (eqb (length (c .cdb)) 0) (ltb (length (c .sense)) 18) (unitOk (s .unit)) (poolOk (s .unit .capacity) (s .pool)) e
+  ready-unit e = stop-5 (ltb 15 (c .nexus)) (eqb (length (c .cdb)) 0) (ltb (length (c .sense)) (senseBytes (s .format))) (formatOk (s .format)) (unitOk (s .unit)) (poolOk (s .unit .capacity) (s .pool)) e
 
-  pub ready-rest : ltb 15 (c .nexus) ≡ false → eqb (length (c .cdb)) 0 ≡ false → ltb (length (c .sense)) 18 ≡ false → unitOk (s .unit) ≡ true
-      → poolOk (s .unit .capacity) (s .pool) ≡ readyFor s c
+  pub ready-rest : ltb 15 (c .nexus) ≡ false → eqb (length (c .cdb)) 0 ≡ false → ltb (length (c .sense)) (senseBytes (s .format)) ≡ false
+      → formatOk (s .format) ≡ true → unitOk (s .unit) ≡ true → poolOk (s .unit .capacity) (s .pool) ≡ readyFor s c
   unfolding readyFor usable
-  ready-rest e f g h = pass-all _ _ _ _ _ e f g h
+  ready-rest e f g h i = pass-all _ _ _ _ _ _ e f g h i

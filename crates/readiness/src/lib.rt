@@ -6,7 +6,7 @@ ghost use Rattle.pool.specs.Valid.{capacityOk, slotsOk, mapOk, poolOk};
 ghost use Rattle.store.specs.Store.{unitOk};
 ghost use Rattle.reply.specs.Contract.{storeOf, callOf};
 ghost use Rattle.readiness.specs.Ready.{readyFor};
-use answers::SENSE_BYTES;
+use answers::sense;
 use pool::BLOCK_BYTES;
 use pool::Checked;
 use pool::MOST_BLOCKS;
@@ -67,6 +67,7 @@ fn pool_ok(capacity: u64, owners: &[u64], medium: &[u8]) -> bool
 
 // Whether nothing refuses the call before its command is looked at. The whole state is checked, once, and last.
 pub fn ready(
+    format: u64,
     unit: Unit,
     owners: &[u64],
     medium: &[u8],
@@ -76,7 +77,7 @@ pub fn ready(
 ) -> bool
     ensures { λ r. ⌜ r
         ≡ readyFor
-        (storeOf unit (now (owners .entry)) (now (medium .entry)))
+        (storeOf format unit (now (owners .entry)) (now (medium .entry)))
         (callOf nexus (now (cdb .entry)) [] [] (now (sense .entry))) ⌝ }
 {
     if LAST_NEXUS < nexus {
@@ -85,7 +86,10 @@ pub fn ready(
     if cdb.len() == 0 {
         return false;
     }
-    if sense.len() < SENSE_BYTES {
+    if sense.len() < sense::sense_bytes(format) {
+        return false;
+    }
+    if !sense::format_ok(format) {
         return false;
     }
     if !unit_ok(unit) {

@@ -9,19 +9,19 @@ use Rattle.store.specs.Fresh.{FreshResult}
 use Rattle.reply.specs.declared.Outcome.{Outcome}
 use Rattle.reply.specs.declared.Made.{Made}
 
--- the store of a unit and the pool that is lent to it
-abbrev pub storeOf : Unit → List ℕ → List ℕ → Store
-storeOf unit owners medium = record { unit = unit; pool = pool owners medium }
+-- the store of a format, a unit and the pool that is lent to it
+abbrev pub storeOf : ℕ → Unit → List ℕ → List ℕ → Store
+storeOf format unit owners medium = record { format = format; unit = unit; pool = pool owners medium }
 
 abbrev pub callOf : ℕ → List ℕ → List ℕ → List ℕ → List ℕ → Call
 callOf nexus cdb dataOut dataIn sense =
     record { nexus = nexus; cdb = cdb; dataOut = dataOut; dataIn = dataIn; sense = sense }
 
--- all that a call leaves
-abbrev pub left : Outcome → List ℕ → List ℕ → List ℕ → List ℕ → Result
-left r owners medium dataIn sense = record {
+-- all that a call leaves of a store of this format
+abbrev pub left : ℕ → Outcome → List ℕ → List ℕ → List ℕ → List ℕ → Result
+left format r owners medium dataIn sense = record {
   seen = record { answer = r .answer; returned = r .returned; dataIn = dataIn; sense = sense };
-  store = storeOf (r .unit) owners medium;
+  store = storeOf format (r .unit) owners medium;
 }
 
 -- all that making a fresh store leaves

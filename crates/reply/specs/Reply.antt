@@ -52,10 +52,10 @@ pub record Served : Type 0 where
   pub reply : Replied
   pub store : Store
 
-abbrev pub served : Outcome → List ℕ → List ℕ → List ℕ → Served
-served r owners medium dataIn = record {
+abbrev pub served : ℕ → Outcome → List ℕ → List ℕ → List ℕ → Served
+served format r owners medium dataIn = record {
   reply = record { answer = r .answer; returned = r .returned; dataIn = dataIn };
-  store = storeOf (r .unit) owners medium;
+  store = storeOf format (r .unit) owners medium;
 }
 
 unfoldable pub serves : Answer → List ℕ → Store → Store → List ℕ → Served

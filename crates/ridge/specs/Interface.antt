@@ -40,7 +40,7 @@ pub record FreshLeft : Type 0 where
   pub unit : Unit
   pub owners : List ℕ
 
--- "bad bounds give 11 and leave all": the unit too
+-- "bad bounds give 11 and leave all": the unit too. The format is given, and kept by the caller
 unfoldable pub freshBy : Unit → FreshResult → FreshLeft
 freshBy u f = record {
   answer = numberOf (f .answer);
@@ -48,8 +48,8 @@ freshBy u f = record {
   owners = f .owners;
 }
 
-unfoldable pub freshened : ℕ → Unit → List ℕ → FreshLeft
-freshened capacity u owners = freshBy u (fresh capacity owners)
+unfoldable pub freshened : ℕ → ℕ → Unit → List ℕ → FreshLeft
+freshened capacity format u owners = freshBy u (fresh capacity format owners)
 
 -- ---- what a promise speaks of: the values and lists that a call leaves
 

@@ -25,12 +25,12 @@ fn if_good(answer: Answer, made: Unit, unit: Unit) -> Unit
     }
 }
 
-// Makes a fresh store in the place of a unit, which bad bounds leave.
-pub fn fresh(capacity: u64, unit: Unit, owners: &mut [u64]) -> Done
+// Makes a fresh store in the place of a unit, which bad bounds and a format that is none leave.
+pub fn fresh(capacity: u64, format: u64, unit: Unit, owners: &mut [u64]) -> Done
     ensures { λ r. ⌜ leavesFresh (r .answer) (r .unit) (now (owners .exit))
-        ≡ freshened capacity unit (now (owners .entry)) ⌝ }
+        ≡ freshened capacity format unit (now (owners .entry)) ⌝ }
 {
-    let made = commands::fresh(capacity, owners);
+    let made = commands::fresh(capacity, format, owners);
     let answer = made.answer;
     let fresh = made.unit;
     Done {
@@ -41,6 +41,7 @@ pub fn fresh(capacity: u64, unit: Unit, owners: &mut [u64]) -> Done
 
 // Runs one command on a unit.
 pub fn execute(
+    format: u64,
     unit: Unit,
     owners: &mut [u64],
     medium: &mut [u8],
@@ -54,10 +55,20 @@ pub fn execute(
     ensures { λ r. ⌜ leaves (r .answer) (now (returned .exit)) (r .unit)
         (now (owners .exit)) (now (medium .exit)) (now («data_in» .exit)) (now (sense .exit))
         ≡ executed
-        (storeOf unit (now (owners .entry)) (now (medium .entry)))
+        (storeOf format unit (now (owners .entry)) (now (medium .entry)))
         (callOf nexus (now (cdb .entry)) (now («data_out» .entry)) (now («data_in» .entry)) (now (sense .entry))) ⌝ }
 {
-    let outcome = commands::execute(unit, owners, medium, nexus, cdb, data_out, data_in, sense);
+    let outcome = commands::execute(
+        format,
+        unit,
+        owners,
+        medium,
+        nexus,
+        cdb,
+        data_out,
+        data_in,
+        sense,
+    );
     let after = outcome.unit;
     let answer = outcome.answer;
     *returned = outcome.returned as u64;

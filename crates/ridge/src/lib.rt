@@ -10,22 +10,28 @@ use store::Unit;
 
 mod by_value;
 
-// Makes a fresh store: its unit and its owners. The answer is document 01's number.
+// Makes a fresh store: its unit and its owners, and whether its format is one. The answer is document 01's number.
 #[no_mangle]
-pub extern "C" fn ridge_fresh(capacity: u64, unit: &mut Unit, owners: &mut [u64]) -> u64
+pub extern "C" fn ridge_fresh(
+    capacity: u64,
+    format: u64,
+    unit: &mut Unit,
+    owners: &mut [u64],
+) -> u64
     ensures { λ r. ⌜ leavesFresh r (now (unit .exit)) (now (owners .exit))
-        ≡ freshened capacity (now (unit .entry)) (now (owners .entry)) ⌝ }
+        ≡ freshened capacity format (now (unit .entry)) (now (owners .entry)) ⌝ }
 {
     let before = *unit;
-    let done = by_value::fresh(capacity, before, owners);
+    let done = by_value::fresh(capacity, format, before, owners);
     let after = done.unit;
     *unit = after;
     done.answer
 }
 
-// Runs one command. The answer is document 01's number; `returned` is how many bytes of data-in were written.
+// Runs one command on a store of a format. The answer is document 01's number; `returned` is how many bytes of data-in were written.
 #[no_mangle]
 pub extern "C" fn ridge_execute(
+    format: u64,
     unit: &mut Unit,
     owners: &mut [u64],
     medium: &mut [u8],
@@ -39,11 +45,12 @@ pub extern "C" fn ridge_execute(
     ensures { λ r. ⌜ leaves r (now (returned .exit)) (now (unit .exit))
         (now (owners .exit)) (now (medium .exit)) (now («data_in» .exit)) (now (sense .exit))
         ≡ executed
-        (storeOf (now (unit .entry)) (now (owners .entry)) (now (medium .entry)))
+        (storeOf format (now (unit .entry)) (now (owners .entry)) (now (medium .entry)))
         (callOf nexus (now (cdb .entry)) (now («data_out» .entry)) (now («data_in» .entry)) (now (sense .entry))) ⌝ }
 {
     let before = *unit;
     let done = by_value::execute(
+        format,
         before,
         owners,
         medium,

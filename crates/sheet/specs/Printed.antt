@@ -4,6 +4,7 @@ use mathlib.Core.Bool.{cond}
 use mathlib.Core.List.{List, [], _∷_, _++_}
 use Prim.Native.Nat.{ℕ, zero, suc, _*_}
 use Rattle.fields.specs.Bytes.{zeros}
+use Rattle.answers.specs.Sense.{fixed}
 use Rattle.store.specs.Store.{Store, Seen}
 use Rattle.store.specs.Step.{step}
 use Rattle.store.specs.Fresh.{freshStore}
@@ -43,9 +44,9 @@ linesFrom s sheet i (suc n) at =
     seenLine (suc i) (step s (callAt sheet i at) .seen)
     ++ linesFrom (step s (callAt sheet i at) .store) sheet (suc i) n (bodyEnd sheet i at)
 
--- the store that the calls begin with; its medium begins as zeros
+-- the store that the calls begin with; its medium begins as zeros, and its sense is in fixed format, "as now"
 unfoldable pub benchStore : Store
-benchStore = freshStore capacity slots (zeros (512 * slots))
+benchStore = freshStore capacity fixed slots (zeros (512 * slots))
 
 -- the lines of all calls
 unfoldable pub linesOf : List ℕ → List ℕ

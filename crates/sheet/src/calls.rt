@@ -4,12 +4,15 @@ ghost use mathlib.Core.Bool.{true};
 ghost use Prim.Native.Nat.{_+_, _*_, _≤_, _<_};
 ghost use lib.ListN.{length};
 ghost use Rattle.fields.specs.Bytes.{zeros};
+ghost use Rattle.answers.specs.Sense.{fixed};
 ghost use Rattle.store.specs.Fresh.{freshUnit};
 ghost use Rattle.reply.specs.Contract.{storeOf};
 ghost use Rattle.contents.specs.Contents.{mostCalls, mostBytes, bodyEnd, goodSheet};
 ghost use Rattle.lines.specs.Most.{lineMost};
 ghost use Rattle.sheet.specs.Printed.{capacity, slots};
 ghost use Rattle.sheet.specs.Leaves.{Serves, Runs};
+use answers::sense::FIXED;
+use answers::sense::FIXED_BYTES;
 use store::Unit;
 
 // 01: "fresh store of capacity 8 and 2 slots, 4,096 bytes of data-in".
@@ -39,16 +42,17 @@ fn serve(
     requires { ⌜ (i < mostCalls) × (bodyEnd (now sheet) i at ≤ length (now sheet)) × (length (now sheet) ≤ mostBytes)
         × (end + lineMost ≤ length (now out)) ⌝ }
     ensures { λ r. ⌜ Serves (now (sheet .entry)) i at
-        (storeOf unit (now (owners .entry)) (now (medium .entry)))
-        (storeOf (r .unit) (now (owners .exit)) (now (medium .exit)))
+        (storeOf fixed unit (now (owners .entry)) (now (medium .entry)))
+        (storeOf fixed (r .unit) (now (owners .exit)) (now (medium .exit)))
         (now (out .entry)) end (now (out .exit)) (r .end) ⌝ }
 {
     let mut data_in = [0u8; DATA_IN];
-    let mut sense = [0u8; 18];
+    let mut sense = [0u8; FIXED_BYTES];
     let nexus = contents::nexus_of(sheet, i);
     let middle = at + contents::cdb_length(sheet, i);
     let last = middle + contents::out_length(sheet, i);
     let o = commands::execute(
+        FIXED,
         unit,
         owners,
         medium,
@@ -70,7 +74,7 @@ fn fresh_unit(owners: &mut [u64]) -> Unit
     requires { ⌜ length (now owners) ≡ slots ⌝ }
     ensures { λ r. ⌜ (r ≡ freshUnit capacity) × (now (owners .exit) ≡ zeros slots) ⌝ }
 {
-    let made = commands::fresh(CAPACITY, owners);
+    let made = commands::fresh(CAPACITY, FIXED, owners);
     let unit = made.unit;
     unit
 }

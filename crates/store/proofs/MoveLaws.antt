@@ -22,8 +22,8 @@ pub read-passes : (capacity address count : ℕ) (dataIn : List ℕ)
     → first (readRows capacity address count dataIn) ≡ Good ↔ ((address + count ≤ capacity) × (blockBytes * count ≤ length dataIn))
 unfolding readRows pastEnd refuses
 read-passes capacity address count dataIn = (
-  λ e. (ltb-false _ _ (row-fails outOfRange _ _ tt e), ltb-false _ _ (row-fails Short _ _ tt (rows-after outOfRange _ _ tt e))),
-  λ h. row-pass outOfRange _ _ (le-ltb _ _ (h .0)) ∙ row-pass Short _ _ (le-ltb _ _ (h .1)) ∙ row-end,
+  λ e. (ltb-false _ _ (row-fails (outOfRange _) _ _ tt e), ltb-false _ _ (row-fails Short _ _ tt (rows-after (outOfRange _) _ _ tt e))),
+  λ h. row-pass (outOfRange _) _ _ (le-ltb _ _ (h .0)) ∙ row-pass Short _ _ (le-ltb _ _ (h .1)) ∙ row-end,
 )
 
 pub write-passes : (capacity : ℕ) (owners : List ℕ) (address count : ℕ) (dataOut : List ℕ)
@@ -32,11 +32,11 @@ pub write-passes : (capacity : ℕ) (owners : List ℕ) (address count : ℕ) (d
 unfolding writeRows pastEnd roomFor refuses
 write-passes capacity owners address count dataOut = (
   λ e. (
-    ltb-false _ _ (row-fails outOfRange _ _ tt e),
-    ltb-false _ _ (row-fails Short _ _ tt (rows-after outOfRange _ _ tt e)),
-    leb-true _ _ (not-false _ (row-fails noRoom _ _ tt (rows-after Short _ _ tt (rows-after outOfRange _ _ tt e)))),
+    ltb-false _ _ (row-fails (outOfRange _) _ _ tt e),
+    ltb-false _ _ (row-fails Short _ _ tt (rows-after (outOfRange _) _ _ tt e)),
+    leb-true _ _ (not-false _ (row-fails (noRoom _) _ _ tt (rows-after Short _ _ tt (rows-after (outOfRange _) _ _ tt e)))),
   ),
-  λ h. row-pass outOfRange _ _ (le-ltb _ _ (h .0)) ∙ row-pass Short _ _ (le-ltb _ _ (h .1)) ∙ row-pass noRoom _ _ (ap not (le-leb _ _ (h .2))) ∙ row-end,
+  λ h. row-pass (outOfRange _) _ _ (le-ltb _ _ (h .0)) ∙ row-pass Short _ _ (le-ltb _ _ (h .1)) ∙ row-pass (noRoom _) _ _ (ap not (le-leb _ _ (h .2))) ∙ row-end,
 )
 
 -- a row that is asked only where a test fails
@@ -54,13 +54,13 @@ pub same-passes : (capacity : ℕ) (owners : List ℕ) (address count options : 
     × (unmapsSame options dataOut ≡ false → unmapped owners address count ≤ free owners))
 unfolding sameRows pastEnd roomFor refuses
 same-passes capacity owners address count options dataOut = (
-  λ e. let d = rows-after outOfRange _ _ tt e in (
-    ltb-false _ _ (row-fails outOfRange _ _ tt e),
+  λ e. let d = rows-after (outOfRange _) _ _ tt e in (
+    ltb-false _ _ (row-fails (outOfRange _) _ _ tt e),
     λ h. ltb-false _ _ (unless (hasNoData options) _ (row-fails Short _ _ tt d) h),
-    λ h. leb-true _ _ (not-false _ (unless (unmapsSame options dataOut) _ (row-fails noRoom _ _ tt (rows-after Short _ _ tt d)) h)),
+    λ h. leb-true _ _ (not-false _ (unless (unmapsSame options dataOut) _ (row-fails (noRoom _) _ _ tt (rows-after Short _ _ tt d)) h)),
   ),
-  λ h. row-pass outOfRange _ _ (le-ltb _ _ (h .0)) ∙ row-pass Short _ _ (unless-back (hasNoData options) _ (λ t. le-ltb _ _ (h .1 t)))
-      ∙ row-pass noRoom _ _ (unless-back (unmapsSame options dataOut) _ (λ t. ap not (le-leb _ _ (h .2 t)))) ∙ row-end,
+  λ h. row-pass (outOfRange _) _ _ (le-ltb _ _ (h .0)) ∙ row-pass Short _ _ (unless-back (hasNoData options) _ (λ t. le-ltb _ _ (h .1 t)))
+      ∙ row-pass (noRoom _) _ _ (unless-back (unmapsSame options dataOut) _ (λ t. ap not (le-leb _ _ (h .2 t)))) ∙ row-end,
 )
 
 pub unmap-passes : (capacity n : ℕ) (dataOut : List ℕ)
@@ -74,10 +74,10 @@ unmap-passes capacity n dataOut = (
         row-fails listLength _ _ tt e,
         ltb-false _ _ (row-fails Short _ _ tt d),
         ltb-false _ _ (row-fails (listField dataLengthBits) _ _ tt d′),
-        row-fails outOfRange _ _ tt (rows-after (listField dataLengthBits) _ _ tt d′),
+        row-fails (outOfRange _) _ _ tt (rows-after (listField dataLengthBits) _ _ tt d′),
       ),
   λ h. row-pass listLength _ _ (h .0) ∙ row-pass Short _ _ (le-ltb _ _ (h .1)) ∙ row-pass (listField dataLengthBits) _ _ (le-ltb _ _ (h .2))
-      ∙ row-pass outOfRange _ _ (h .3) ∙ row-end,
+      ∙ row-pass (outOfRange _) _ _ (h .3) ∙ row-end,
 )
 
 pub status-passes : (capacity : ℕ) (owners : List ℕ) (address n : ℕ) (dataIn : List ℕ)
@@ -85,6 +85,6 @@ pub status-passes : (capacity : ℕ) (owners : List ℕ) (address n : ℕ) (data
     ↔ ((address < capacity) × (length (statusTold capacity owners address n) ≤ length dataIn))
 unfolding statusRows refuses
 status-passes capacity owners address n dataIn = (
-  λ e. (leb-false _ _ (row-fails outOfRange _ _ tt e), ltb-false _ _ (row-fails Short _ _ tt (rows-after outOfRange _ _ tt e))),
-  λ h. row-pass outOfRange _ _ (lt-leb _ _ (h .0)) ∙ row-pass Short _ _ (le-ltb _ _ (h .1)) ∙ row-end,
+  λ e. (leb-false _ _ (row-fails (outOfRange _) _ _ tt e), ltb-false _ _ (row-fails Short _ _ tt (rows-after (outOfRange _) _ _ tt e))),
+  λ h. row-pass (outOfRange _) _ _ (lt-leb _ _ (h .0)) ∙ row-pass Short _ _ (le-ltb _ _ (h .1)) ∙ row-end,
 )

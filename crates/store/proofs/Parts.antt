@@ -11,6 +11,7 @@ use Rattle.answers.specs.declared.Answer.{Answer}
 use Rattle.answers.specs.declared.Answer.the-variants.{Good, Conflict, Unusable}
 use Rattle.answers.specs.Order.{Row, _if_, first, next, refuses, refusing, firstOf, nextBy, refusingBy}
 use Rattle.answers.proofs.OrderLaws.{row-fails, row-stop, first-append, next-after, next-refuses, next-refused, next-first, next-second, good-cases}
+use Rattle.answers.specs.Sense.{senseBytes}
 use Rattle.rights.specs.declared.Rights.{Rights}
 use Rattle.forms.specs.Forms.{entryOf, Asked, nothing, asks, askedOf}
 use Rattle.forms.specs.Tests.{codeRows, lengthRows, fieldRows}
@@ -21,8 +22,8 @@ use Rattle.store.specs.Step.{callRows, storeRows, guardRows, stageRows, 
 
 -- ---- the answer of each stage
 
-abbrev pub callAnswer : Call → Answer
-callAnswer c = first (callRows c)
+abbrev pub callAnswer : ℕ → Call → Answer
+callAnswer format c = first (callRows format c)
 
 abbrev pub storeAnswer : Store → Answer
 storeAnswer s = first (storeRows s)
@@ -44,9 +45,9 @@ ownAnswer s c = first (ownRows (askedOf (c .cdb)) s c)
 
 -- ---- all rows before a command's own refuse
 
-call-refusing : (c : Call) → T (refusing (callRows c))
+call-refusing : (format : ℕ) (c : Call) → T (refusing (callRows format c))
 unfolding callRows refusingBy refuses
-call-refusing c = tt
+call-refusing format c = tt
 
 store-refusing : (s : Store) → T (refusing (storeRows s))
 unfolding storeRows refusingBy refuses
@@ -67,11 +68,11 @@ module _ (s : Store) (c : Call) where
   abbrev staged : Answer
   staged = next (codeAnswer c) (next (lengthAnswer c) (next (fieldAnswer c) (next (guardAnswer (s .unit) c) (ownAnswer s c))))
 
-  pub parts : answerTo s c ≡ next (callAnswer c) (next (storeAnswer s) staged)
+  pub parts : answerTo s c ≡ next (callAnswer (s .format) c) (next (storeAnswer s) staged)
   unfolding answerTo answerBy stageRows askedOf
   parts =
       simp append-assoc
-      (then (callRows c) _ _ (call-refusing c)
+      (then (callRows (s .format) c) _ _ (call-refusing (s .format) c)
       (then (storeRows s) _ _ (store-refusing s)
       (then (codeRows (entryOf (c .cdb))) _ _ (code-refusing (entryOf (c .cdb)))
       (then (lengthRows (entryOf (c .cdb)) (c .cdb)) _ _ (length-refusing (entryOf (c .cdb)) (c .cdb))
@@ -95,10 +96,10 @@ passes-usable s e = not-not (usable s) (false→T (not (usable s)) (row-fails Un
 
 -- ---- where who calls, the buffers and the store are right
 
-module _ (s : Store) (c : Call) (call : callAnswer c ≡ Good) (store : T (usable s)) where
+module _ (s : Store) (c : Call) (call : callAnswer (s .format) c ≡ Good) (store : T (usable s)) where
   -- the code decides, and what is behind it
   pub from-code : answerTo s c ≡ staged s c
-  from-code = parts s c ∙ next-after (callAnswer c) _ call ∙ next-after (storeAnswer s) _ (usable-passes s store)
+  from-code = parts s c ∙ next-after (callAnswer (s .format) c) _ call ∙ next-after (storeAnswer s) _ (usable-passes s store)
 
   -- then the fields, and what is behind them
   pub from-fields : codeAnswer c ≡ Good → lengthAnswer c ≡ Good
@@ -108,7 +109,7 @@ module _ (s : Store) (c : Call) (call : callAnswer c ≡ Good) (store : T (usabl
 -- ---- where nothing before the guard refuses
 
 pub record Cleared (s : Store) (c : Call) : Type 0 where
-  pub call : callAnswer c ≡ Good
+  pub call : callAnswer (s .format) c ≡ Good
   pub store : T (usable s)
   pub code : codeAnswer c ≡ Good
   pub length : lengthAnswer c ≡ Good
@@ -120,19 +121,19 @@ cleared s c p = from-fields s c (p .call) (p .store) (p .code) (p .length) ∙ n
 
 -- a call that is right by itself: who calls, the buffers, and the code, length and fields of the CDB
 pub itself-cleared : (s : Store) (c : Call) → T (usable s)
-    → first (callRows c ++ (codeRows (entryOf (c .cdb)) ++ (lengthRows (entryOf (c .cdb)) (c .cdb) ++ fieldRows (entryOf (c .cdb)) (c .cdb)))) ≡ Good
+    → first (callRows (s .format) c ++ (codeRows (entryOf (c .cdb)) ++ (lengthRows (entryOf (c .cdb)) (c .cdb) ++ fieldRows (entryOf (c .cdb)) (c .cdb)))) ≡ Good
     → Cleared s c
 itself-cleared s c u e =
-    let e₀ : next (callAnswer c) (next (codeAnswer c) (next (lengthAnswer c) (fieldAnswer c))) ≡ Good =
+    let e₀ : next (callAnswer (s .format) c) (next (codeAnswer c) (next (lengthAnswer c) (fieldAnswer c))) ≡ Good =
     sym
-    (then (callRows c) _ _ (call-refusing c)
+    (then (callRows (s .format) c) _ _ (call-refusing (s .format) c)
     (then (codeRows (entryOf (c .cdb))) _ _ (code-refusing (entryOf (c .cdb)))
     (first-append (lengthRows (entryOf (c .cdb)) (c .cdb)) _ (length-refusing (entryOf (c .cdb)) (c .cdb)))))
     ∙ e in
-    let e₁ = next-second (callAnswer c) _ e₀ in
+    let e₁ = next-second (callAnswer (s .format) c) _ e₀ in
     let e₂ = next-second (codeAnswer c) _ e₁ in
     record {
-      call = next-first (callAnswer c) _ e₀;
+      call = next-first (callAnswer (s .format) c) _ e₀;
       store = u;
       code = next-first (codeAnswer c) _ e₁;
       length = next-first (lengthAnswer c) _ e₂;
@@ -148,7 +149,7 @@ conflict-first s c p e = cleared s c p ∙ ap (λ (a : Answer). next a (ownAnswe
 
 module _ (s : Store) (c : Call) (good : answerTo s c ≡ Good) where
   past-call : next (storeAnswer s) (staged s c) ≡ Good
-  past-call = next-second (callAnswer c) _ (sym (parts s c) ∙ good)
+  past-call = next-second (callAnswer (s .format) c) _ (sym (parts s c) ∙ good)
 
   past-store : staged s c ≡ Good
   past-store = next-second (storeAnswer s) _ past-call
@@ -164,7 +165,7 @@ module _ (s : Store) (c : Call) (good : answerTo s c ≡ Good) where
 
   pub good-cleared : Cleared s c
   good-cleared = record {
-    call = next-first (callAnswer c) _ (sym (parts s c) ∙ good);
+    call = next-first (callAnswer (s .format) c) _ (sym (parts s c) ∙ good);
     store = passes-usable s (next-first (storeAnswer s) _ past-call);
     code = next-first (codeAnswer c) _ past-store;
     length = next-first (lengthAnswer c) _ past-code;
@@ -177,9 +178,9 @@ module _ (s : Store) (c : Call) (good : answerTo s c ≡ Good) where
   pub good-own : ownAnswer s c ≡ Good
   good-own = next-second (guardAnswer (s .unit) c) _ past-fields
 
-pub call-nexus : (c : Call) → callAnswer c ≡ Good → c .nexus ≤ 15
+pub call-nexus : (format : ℕ) (c : Call) → callAnswer format c ≡ Good → c .nexus ≤ 15
 unfolding callRows refuses
-call-nexus c e = nltb→le 15 (c .nexus) (false→T (ltb 15 (c .nexus)) (row-fails Unusable _ _ tt e))
+call-nexus format c e = nltb→le 15 (c .nexus) (false→T (ltb 15 (c .nexus)) (row-fails Unusable _ _ tt e))
 
 -- ---- what a refusal says
 
@@ -187,7 +188,7 @@ call-nexus c e = nltb→le 15 (c .nexus) (false→T (ltb 15 (c .nexus)) (row-fai
 pub guard-refused : (s : Store) (c : Call) → T (refuses (guardAnswer (s .unit) c)) → T (refuses (answerTo s c))
 guard-refused s c t =
     rw (parts s c, next-refuses (guardAnswer (s .unit) c) (ownAnswer s c) t)
-    (next-refused (callAnswer c) _ (next-refused (storeAnswer s) _ (next-refused (codeAnswer c) _ (next-refused (lengthAnswer c) _ (next-refused (fieldAnswer c) _ t)))))
+    (next-refused (callAnswer (s .format) c) _ (next-refused (storeAnswer s) _ (next-refused (codeAnswer c) _ (next-refused (lengthAnswer c) _ (next-refused (fieldAnswer c) _ t)))))
 
 -- a call for nothing that the table serves is refused
 pub unserved-refused : (s : Store) (c : Call) → askedOf (c .cdb) ≡ nothing → T (refuses (answerTo s c))
@@ -208,15 +209,15 @@ pub unusable-answer : (s : Store) (c : Call) → T (not (usable s)) → answerTo
 unfolding callRows storeRows refuses
 unusable-answer s c t =
     parts s c
-    ∙ ap (λ (a : Answer). next (callAnswer c) (next a (staged s c))) (row-stop Unusable _ _ (T-true (not (usable s)) t))
-    ∙ ap (next (callAnswer c)) (next-refuses Unusable (staged s c) tt)
-    ∙ call-eleven (ltb 15 (c .nexus)) (eqb (length (c .cdb)) 0) (ltb (length (c .sense)) 18)
+    ∙ ap (λ (a : Answer). next (callAnswer (s .format) c) (next a (staged s c))) (row-stop Unusable _ _ (T-true (not (usable s)) t))
+    ∙ ap (next (callAnswer (s .format) c)) (next-refuses Unusable (staged s c) tt)
+    ∙ call-eleven (ltb 15 (c .nexus)) (eqb (length (c .cdb)) 0) (ltb (length (c .sense)) (senseBytes (s .format)))
 
 -- ---- two stores, one call
 
--- the tests before a command's own see the unit's record alone: usable stores that agree on it answer alike, if the command's own tests do where the
--- guard lets them be made
-module _ (s t : Store) (c : Call) (u : T (usable s)) (v : T (usable t)) (e : s .unit ≡ t .unit)
+-- the tests before a command's own see the format and the unit's record alone: usable stores that agree on them answer alike, if the command's own tests
+-- do where the guard lets them be made
+module _ (s t : Store) (c : Call) (u : T (usable s)) (v : T (usable t)) (f : s .format ≡ t .format) (e : s .unit ≡ t .unit)
     (h : guardAnswer (s .unit) c ≡ Good → ownAnswer s c ≡ ownAnswer t c) where
   past-guard : next (guardAnswer (s .unit) c) (ownAnswer s c) ≡ next (guardAnswer (s .unit) c) (ownAnswer t c)
   past-guard =
@@ -231,14 +232,15 @@ module _ (s t : Store) (c : Call) (u : T (usable s)) (v : T (usable t)) (e : s .
   pub answers-alike : answerTo s c ≡ answerTo t c
   answers-alike =
       parts s c
-      ∙ ap₂ (λ (a b : Answer). next (callAnswer c) (next a b)) (usable-passes s u ∙ sym (usable-passes t v)) staged-alike
+      ∙ ap₂ (λ (a b : Answer). next (callAnswer (s .format) c) (next a b)) (usable-passes s u ∙ sym (usable-passes t v)) staged-alike
+      ∙ ap (λ (format : ℕ). next (callAnswer format c) (next (storeAnswer t) (staged t c))) f
       ∙ sym (parts t c)
 
 -- ---- one store, two calls
 
 -- the stages have the same rows
 pub record SameRows (s : Store) (c d : Call) : Type 0 where
-  pub call : callRows c ≡ callRows d
+  pub call : callRows (s .format) c ≡ callRows (s .format) d
   pub code : codeRows (entryOf (c .cdb)) ≡ codeRows (entryOf (d .cdb))
   pub length : lengthRows (entryOf (c .cdb)) (c .cdb) ≡ lengthRows (entryOf (d .cdb)) (d .cdb)
   pub fields : fieldRows (entryOf (c .cdb)) (c .cdb) ≡ fieldRows (entryOf (d .cdb)) (d .cdb)

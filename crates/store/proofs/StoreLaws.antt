@@ -1,6 +1,6 @@
 -- Laws of `step` that its reader may want to see first: what a call leaves, and which command sees and changes what.
 -- Assumes nothing.
-use mathlib.Core.Path.{_≡_, refl, ap, ap₂}
+use mathlib.Core.Path.{_≡_, refl, ap, ap₂, _∙_}
 use mathlib.Core.Bool.{true, not}
 use Prim.Native.Nat.{ℕ}
 use lib.Dec.{T}
@@ -8,6 +8,7 @@ use Rattle.answers.specs.declared.Answer.{Answer}
 use Rattle.answers.specs.declared.Answer.the-variants.{Good, Refused, Conflict, Unusable, Short}
 use Rattle.answers.specs.Order.{first, ifGoodBy, refuses}
 use Rattle.answers.proofs.OrderLaws.{row-stop, if-good, if-refused, good-cases}
+use Rattle.pool.specs.Pool.{Pool}
 use Rattle.rights.specs.declared.Rights.{Rights}
 use Rattle.rights.specs.Actions.{acted}
 use Rattle.forms.specs.declared.Command.{Command}
@@ -27,6 +28,12 @@ pub guard-stops : (q : Request) (r : Rights) (n : ℕ) → conflict r n (q .comm
 unfolding guardRows
 guard-stops q r n e = row-stop Conflict _ _ e
 
+-- a store is its format, its unit's record and its pool
+pub store-is : (s t : Store) → s .format ≡ t .format → s .unit ≡ t .unit → s .pool ≡ t .pool → s ≡ t
+store-is s t f u p =
+    ap₂ (λ (x : ℕ) (y : Unit). record { format = x; unit = y; pool = s .pool }) f u
+    ∙ ap (λ (z : Pool). record { format = t .format; unit = t .unit; pool = z }) p
+
 -- ---- a call by its answer and by what is asked for
 
 module _ (s : Store) (c : Call) where
@@ -34,7 +41,7 @@ module _ (s : Store) (c : Call) where
   unfolding step stepBy seenOf answerTo
   step-answer = refl
 
-  pub step-seen : step s c .seen ≡ seenOf (answerTo s c) (dataBy (askedOf (c .cdb)) s) c
+  pub step-seen : step s c .seen ≡ seenOf (s .format) (answerTo s c) (dataBy (askedOf (c .cdb)) s) c
   unfolding step stepBy answerTo askedOf
   step-seen = refl
 
@@ -130,6 +137,21 @@ unfolding storeBy movesIn
 pool-left nothing s c h = refl
 pool-left (asks q) s c h = command-keeps-pool (q .command) q s c h
 
+-- no command changes the format
+command-keeps-format : (k : Command) (q : Request) (s : Store) (c : Call) → commandStore k q s c .format ≡ s .format
+unfolding commandStore
+command-keeps-format (Tells x) q s c = refl
+command-keeps-format (Moves m) q s c = refl
+command-keeps-format (Alters a) q s c = refl
+
+pub format-left : (x : Asked) (s : Store) (c : Call) → storeBy x s c .format ≡ s .format
+unfolding storeBy
+format-left nothing s c = refl
+format-left (asks q) s c = command-keeps-format (q .command) q s c
+
+pub format-kept : (s : Store) (c : Call) → step s c .store .format ≡ s .format
+format-kept s c = step-ways (λ t. t .format ≡ s .format) s c (λ _. format-left (askedOf (c .cdb)) s c) refl
+
 -- one that does neither changes nothing
 pub store-left : (x : Asked) (s : Store) (c : Call) → T (not (altersIn x)) → T (not (movesIn x)) → storeBy x s c ≡ s
-store-left x s c a m = ap₂ (λ (u : Unit) (p : _). record { unit = u; pool = p }) (unit-left x s c a) (pool-left x s c m)
+store-left x s c a m = store-is (storeBy x s c) s (format-left x s c) (unit-left x s c a) (pool-left x s c m)

@@ -1,5 +1,5 @@
 -- A fresh store: "no mapping, registration or reservation and generation 0. Making one is no call of a history and leaves the medium bytes;
--- bad bounds give 11 and leave all." Assumes nothing.
+-- bad bounds give 11 and leave all." Q-8: "Chosen when a store is made fresh, sense is fixed as now or descriptor format". Assumes nothing.
 use mathlib.Core.Bool.{not}
 use mathlib.Core.List.{List, [], _∷_}
 use Prim.Native.Nat.{ℕ}
@@ -8,6 +8,7 @@ use Rattle.fields.specs.Bytes.{zeros}
 use Rattle.answers.specs.declared.Answer.{Answer}
 use Rattle.answers.specs.declared.Answer.the-variants.{Unusable}
 use Rattle.answers.specs.Order.{_if_, first, ifGood}
+use Rattle.answers.specs.Sense.{formatOk}
 use Rattle.pool.specs.Pool.{pool}
 use Rattle.pool.specs.Valid.{capacityOk, slotsOk}
 use Rattle.rights.specs.Rights.{noRights}
@@ -17,9 +18,10 @@ use Rattle.store.specs.Store.{Store}
 unfoldable pub freshUnit : ℕ → Unit
 freshUnit capacity = record { capacity = capacity; rights = noRights }
 
--- the bounds alone are tested: the medium is not lent
-unfoldable pub freshAnswer : ℕ → ℕ → Answer
-freshAnswer capacity slots = first (Unusable if not (capacityOk capacity) ∷ Unusable if not (slotsOk slots) ∷ [])
+-- the bounds and the format alone are tested: the medium is not lent
+unfoldable pub freshAnswer : ℕ → ℕ → ℕ → Answer
+freshAnswer capacity format slots =
+    first (Unusable if not (capacityOk capacity) ∷ Unusable if not (formatOk format) ∷ Unusable if not (slotsOk slots) ∷ [])
 
 -- what making a store leaves; the unit of a refusal has no blocks, so that every call on it is refused
 pub record FreshResult : Type 0 where
@@ -27,12 +29,12 @@ pub record FreshResult : Type 0 where
   pub unit : Unit
   pub owners : List ℕ
 
-unfoldable pub fresh : ℕ → List ℕ → FreshResult
-fresh capacity owners = record {
-  answer = freshAnswer capacity (length owners);
-  unit = ifGood (freshAnswer capacity (length owners)) (freshUnit capacity) (freshUnit 0);
-  owners = ifGood (freshAnswer capacity (length owners)) (zeros (length owners)) owners;
+unfoldable pub fresh : ℕ → ℕ → List ℕ → FreshResult
+fresh capacity format owners = record {
+  answer = freshAnswer capacity format (length owners);
+  unit = ifGood (freshAnswer capacity format (length owners)) (freshUnit capacity) (freshUnit 0);
+  owners = ifGood (freshAnswer capacity format (length owners)) (zeros (length owners)) owners;
 }
 
-unfoldable pub freshStore : ℕ → ℕ → List ℕ → Store
-freshStore capacity slots medium = record { unit = freshUnit capacity; pool = pool (zeros slots) medium }
+unfoldable pub freshStore : ℕ → ℕ → ℕ → List ℕ → Store
+freshStore capacity format slots medium = record { format = format; unit = freshUnit capacity; pool = pool (zeros slots) medium }

@@ -11,7 +11,7 @@ use Rattle.answers.specs.Answers.{outOfRange, listLength, listField, noRoom}
 use Rattle.answers.specs.Order.{Row, _if_}
 use Rattle.pool.specs.Bounds.{blockBytes}
 use Rattle.pool.specs.Pool.{Pool, withOwners, readBlocks, writeBlocks, roomFor}
-use Rattle.descriptors.specs.Descriptors.{dataLengthBits, mostDescriptors, considered, someFails, unmapAll}
+use Rattle.descriptors.specs.Descriptors.{dataLengthBits, mostDescriptors, considered, firstFailing, addressOf, someFails, unmapAll}
 use Rattle.runs.specs.Page.{statusData}
 use Rattle.forms.specs.declared.Move.{Move}
 use Rattle.forms.specs.declared.Move.the-variants.{Read, Write, WriteSame, Unmap, Status}
@@ -26,35 +26,35 @@ pastEnd capacity address count = ltb capacity (address + count)
 
 -- "READ: 10, 3, 12. WRITE: 10, 3, 12, 8."
 -- "UNMAP: 10; list length 0 gives GOOD; length 1 to 7 gives 4; 12; more than 16 descriptors 5; 3 if any descriptor fails."
--- These are the tests after the 10, of the blocks from `address` on.
+-- These are the tests after the 10, of the blocks from `address` on. Q-8: "Answers 3 and 8 carry the command's first address".
 unfoldable pub readRows : ℕ → ℕ → ℕ → List ℕ → List Row
 readRows capacity address count dataIn =
-    outOfRange if pastEnd capacity address count
+    outOfRange address if pastEnd capacity address count
     ∷ Short if ltb (length dataIn) (blockBytes * count)
     ∷ []
 
 unfoldable pub writeRows : ℕ → List ℕ → ℕ → ℕ → List ℕ → List Row
 writeRows capacity owners address count dataOut =
-    outOfRange if pastEnd capacity address count
+    outOfRange address if pastEnd capacity address count
     ∷ Short if ltb (length dataOut) (blockBytes * count)
-    ∷ noRoom if not (roomFor owners address count)
+    ∷ noRoom address if not (roomFor owners address count)
     ∷ []
 
 -- Q-1: "WRITE SAME in WRITE's order, 12 for less than 512 bytes of data-out unless NDOB": 3, 12, 8 after the 10; unmapping needs no room
 unfoldable pub sameRows : ℕ → List ℕ → ℕ → ℕ → ℕ → List ℕ → List Row
 sameRows capacity owners address count options dataOut =
-    outOfRange if pastEnd capacity address count
+    outOfRange address if pastEnd capacity address count
     ∷ Short if (not (hasNoData options) && ltb (length dataOut) blockBytes)
-    ∷ noRoom if (not (unmapsSame options dataOut) && not (roomFor owners address count))
+    ∷ noRoom address if (not (unmapsSame options dataOut) && not (roomFor owners address count))
     ∷ []
 
--- of a parameter list of n bytes; Q-4: "more than 16 descriptors points at list byte 2"
+-- of a parameter list of n bytes; Q-4: "more than 16 descriptors points at list byte 2"; Q-8: "for UNMAP that of the first failing descriptor"
 unfoldable pub unmapRows : ℕ → ℕ → List ℕ → List Row
 unmapRows capacity n dataOut =
     listLength if (leb 1 n && leb n 7)
     ∷ Short if ltb (length dataOut) n
     ∷ listField dataLengthBits if ltb mostDescriptors (considered n dataOut)
-    ∷ outOfRange if someFails capacity dataOut 8 (considered n dataOut)
+    ∷ outOfRange (addressOf (firstFailing capacity dataOut 8 (considered n dataOut))) if someFails capacity dataOut 8 (considered n dataOut)
     ∷ []
 
 -- what GET LBA STATUS tells where n is the allocation length: "the returned bytes are the first min(allocation length, available); length
@@ -65,7 +65,7 @@ statusTold capacity owners address n = take n (statusData capacity owners addres
 -- Q-1: "status 10, 3 for a start at or past capacity, 12"; these are the tests after the 10
 unfoldable pub statusRows : ℕ → List ℕ → ℕ → ℕ → List ℕ → List Row
 statusRows capacity owners address n dataIn =
-    outOfRange if leb capacity address
+    outOfRange address if leb capacity address
     ∷ Short if ltb (length dataIn) (length (statusTold capacity owners address n))
     ∷ []
 

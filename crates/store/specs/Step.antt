@@ -7,7 +7,7 @@ use lib.Dec.{eqb, ltb}
 use lib.ListN.{length}
 use Rattle.answers.specs.declared.Answer.{Answer}
 use Rattle.answers.specs.declared.Answer.the-variants.{Conflict, Unusable}
-use Rattle.answers.specs.Answers.{senseBytes}
+use Rattle.answers.specs.Sense.{senseBytes}
 use Rattle.answers.specs.Order.{Row, _if_, first}
 use Rattle.rights.specs.declared.Rights.{Rights}
 use Rattle.rights.specs.Bounds.{lastNexus}
@@ -26,12 +26,12 @@ use Rattle.store.specs.Conflict.{conflict}
 
 -- ---- the order, stage by stage
 
--- "First 11: nexus above 15, empty CDB, sense buffer under 18 bytes"
-unfoldable pub callRows : Call → List Row
-callRows c =
+-- "First 11: nexus above 15, empty CDB, sense buffer under 18 bytes"; Q-8: "sense needs 20 bytes … a shorter sense buffer there gives 11"
+unfoldable pub callRows : ℕ → Call → List Row
+callRows format c =
     Unusable if ltb lastNexus (c .nexus)
     ∷ Unusable if eqb (length (c .cdb)) 0
-    ∷ Unusable if ltb (length (c .sense)) senseBytes
+    ∷ Unusable if ltb (length (c .sense)) (senseBytes format)
     ∷ []
 
 -- "slots or capacity out of bounds, medium not 512 x slots bytes, invalid state"
@@ -59,7 +59,7 @@ ownRows (asks q) s c = commandRows (q .command) q s c
 
 unfoldable pub answerBy : Entry → Store → Call → Answer
 answerBy e s c =
-    first (callRows c ++ (storeRows s ++ (stageRows e (s .unit .rights) (c .nexus) (c .cdb) ++ ownRows (askedIn e (c .cdb)) s c)))
+    first (callRows (s .format) c ++ (storeRows s ++ (stageRows e (s .unit .rights) (c .nexus) (c .cdb) ++ ownRows (askedIn e (c .cdb)) s c)))
 
 -- ---- what comes of a call that nothing refuses
 
@@ -88,7 +88,7 @@ storeBy (asks q) s c = commandStore (q .command) q s c
 
 unfoldable pub stepBy : Entry → Store → Call → Result
 stepBy e s c = record {
-  seen = seenOf (answerBy e s c) (dataBy (askedIn e (c .cdb)) s) c;
+  seen = seenOf (s .format) (answerBy e s c) (dataBy (askedIn e (c .cdb)) s) c;
   store = leaves (answerBy e s c) (storeBy (askedIn e (c .cdb)) s c) s;
 }
 

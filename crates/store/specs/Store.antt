@@ -6,7 +6,7 @@ use Prim.Native.Nat.{ℕ}
 use lib.ListN.{length}
 use Rattle.fields.specs.Bytes.{put}
 use Rattle.answers.specs.declared.Answer.{Answer}
-use Rattle.answers.specs.Answers.{senseAfter}
+use Rattle.answers.specs.Sense.{formatOk, senseAfter}
 use Rattle.answers.specs.Order.{ifGood}
 use Rattle.pool.specs.Pool.{Pool}
 use Rattle.pool.specs.Valid.{capacityOk, poolOk}
@@ -14,8 +14,9 @@ use Rattle.rights.specs.declared.Rights.{Rights}
 use Rattle.rights.specs.Rights.{rightsOk}
 use Rattle.store.specs.declared.Unit.{Unit}
 
--- what everybody may know, and the blocks
+-- the format of its sense data, which is every unit's and which no call changes; what everybody may know of the unit; and the blocks
 pub record Store : Type 0 where
+  pub format : ℕ
   pub unit : Unit
   pub pool : Pool
 
@@ -44,10 +45,10 @@ abbrev pub withRights : Unit → Rights → Unit
 withRights u rights = record { capacity = u .capacity; rights = rights }
 
 abbrev pub withUnit : Store → Unit → Store
-withUnit s unit = record { unit = unit; pool = s .pool }
+withUnit s unit = record { format = s .format; unit = unit; pool = s .pool }
 
 abbrev pub withPool : Store → Pool → Store
-withPool s pool = record { unit = s .unit; pool = pool }
+withPool s pool = record { format = s .format; unit = s .unit; pool = pool }
 
 -- ---- when a store can be used
 
@@ -57,7 +58,7 @@ unitOk u = capacityOk (u .capacity) && rightsOk (u .rights)
 
 -- within its bounds, lent its whole pool, and in a valid state
 unfoldable pub usable : Store → Bool
-usable s = unitOk (s .unit) && poolOk (s .unit .capacity) (s .pool)
+usable s = formatOk (s .format) && (unitOk (s .unit) && poolOk (s .unit .capacity) (s .pool))
 
 -- ---- what an answer leaves
 
@@ -66,10 +67,10 @@ unfoldable pub leaves : Answer → Store → Store → Store
 leaves a done s = ifGood a done s
 
 -- "Data-in is written only on 0, and only its first returned bytes."
-unfoldable pub seenOf : Answer → List ℕ → Call → Seen
-seenOf a bs c = record {
+unfoldable pub seenOf : ℕ → Answer → List ℕ → Call → Seen
+seenOf format a bs c = record {
   answer = a;
   returned = ifGood a (length bs) 0;
   dataIn = ifGood a (put (c .dataIn) 0 bs) (c .dataIn);
-  sense = senseAfter a (c .sense);
+  sense = senseAfter format a (c .sense);
 }

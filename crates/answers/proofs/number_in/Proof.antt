@@ -2,7 +2,6 @@
 use borrow.Author.Needs.{needs}
 use Rattle.answers.proofs.number_in.Statement.{statement}
 use Rattle.answers.proofs.number_in.Tie as tie
-use Rattle.answers.proofs.number_in.Reads as reads
 
 codes-of-requires : tie.Need-codes-of-requires
 codes-of-requires c κs = search needs

@@ -1,22 +1,14 @@
--- `answers::put_sense` meets its contract.
--- Assumes nothing.
-use Rattle.fields.specs.Field.{bytes}
+-- `sense::put_sense` meets its contract. Assumes nothing.
+use Rattle.answers.specs.Sense.{senseAfter}
 use borrow.Author.Needs.{needs}
-use Rattle.answers.specs.Answers.{senseAfter, fixedFormat}
-use Rattle.answers.proofs.put_sense.Statement.{statement}
-use Rattle.answers.proofs.put_sense.Tie as tie
+use Rattle.answers.proofs.sense.put_sense.Statement.{statement}
+use Rattle.answers.proofs.sense.put_sense.Tie as tie
 
-enum-known-a : tie.Need-enum-known-a
-enum-known-a c = search needs
+enum-known-answer : tie.Need-enum-known-answer
+enum-known-answer c = search needs
 
-fixed-format-requires : tie.Need-fixed-format-requires
-fixed-format-requires c κs = search needs
-
-slice-aggregate-put : tie.Need-slice-aggregate-put
-slice-aggregate-put c = search needs
-
-put-requires : tie.Need-put-requires
-put-requires c κs = search needs
+put-data-requires : tie.Need-put-data-requires
+put-data-requires c κs = search needs
 
 enum-told : tie.Need-enum-told
 enum-told c = search needs
@@ -34,8 +26,8 @@ same-length : tie.Need-same-length
 same-length c = search needs
 
 returns : tie.Need-returns
-unfolding senseAfter fixedFormat bytes
-returns c = simp (c .before .before .before .before .before .before .before .a .given .1, c .before .before .put .ensures, c .before .before .before .before .before .fixed-format .ensures)
+unfolding senseAfter
+returns c = simp (c .before .before .before .before .before .answer .given .1, c .before .before .put-data .ensures)
 
 returns-2 : tie.Need-returns-2
 unfolding senseAfter
@@ -57,10 +49,8 @@ pub put-sense-spec : {M : Type 1} → statement M
 put-sense-spec =
     tie.close
     (tie.spec
-    enum-known-a
-    fixed-format-requires
-    slice-aggregate-put
-    put-requires
+    enum-known-answer
+    put-data-requires
     enum-told
     enum-told-2
     enum-told-3

@@ -15,13 +15,13 @@ use Rattle.reply.specs.Contract.{left, made}
 use Rattle.ridge.specs.Interface.{leftBy, executed, freshBy, freshened, leaves, leavesFresh}
 
 pub executes : (s : Store) (c : Call) (o : Outcome) (owners medium into sense : List ℕ)
-    → left o owners medium into sense ≡ step s c
+    → left (s .format) o owners medium into sense ≡ step s c
     → leaves (numberOf (o .answer)) (o .returned) (o .unit) owners medium into sense ≡ executed s c
 unfolding executed leftBy
 executes s c o owners medium into sense h = ap leftBy h
 
-pub freshens : (capacity : ℕ) (unit : Unit) (owners : List ℕ) (m : Made) (owners′ : List ℕ)
-    → made m owners′ ≡ fresh capacity owners
-    → leavesFresh (numberOf (m .answer)) (ifGood (m .answer) (m .unit) unit) owners′ ≡ freshened capacity unit owners
+pub freshens : (capacity format : ℕ) (unit : Unit) (owners : List ℕ) (m : Made) (owners′ : List ℕ)
+    → made m owners′ ≡ fresh capacity format owners
+    → leavesFresh (numberOf (m .answer)) (ifGood (m .answer) (m .unit) unit) owners′ ≡ freshened capacity format unit owners
 unfolding freshened freshBy
-freshens capacity unit owners m owners′ h = ap (freshBy unit) h
+freshens capacity format unit owners m owners′ h = ap (freshBy unit) h

@@ -22,10 +22,10 @@ ridge-execute-only s c answer answer′ returned returned′ unit unit′ owners
       ap (λ (x : Left). x .sense) same,
     )
 
-pub ridge-fresh-only : (capacity : ℕ) (u : Unit) (before : List ℕ) (answer answer′ : ℕ) (unit unit′ : Unit) (owners owners′ : List ℕ)
-    → leavesFresh answer unit owners ≡ freshened capacity u before → leavesFresh answer′ unit′ owners′ ≡ freshened capacity u before
+pub ridge-fresh-only : (capacity format : ℕ) (u : Unit) (before : List ℕ) (answer answer′ : ℕ) (unit unit′ : Unit) (owners owners′ : List ℕ)
+    → leavesFresh answer unit owners ≡ freshened capacity format u before → leavesFresh answer′ unit′ owners′ ≡ freshened capacity format u before
     → (answer ≡ answer′) × (unit ≡ unit′) × (owners ≡ owners′)
-ridge-fresh-only capacity u before answer answer′ unit unit′ owners owners′ e h =
+ridge-fresh-only capacity format u before answer answer′ unit unit′ owners owners′ e h =
     let same : leavesFresh answer unit owners ≡ leavesFresh answer′ unit′ owners′ = e ∙ sym h in (
       ap (λ (x : FreshLeft). x .answer) same,
       ap (λ (x : FreshLeft). x .unit) same,

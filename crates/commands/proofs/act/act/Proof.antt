@@ -32,10 +32,10 @@ same-length : tie.Need-same-length
 same-length c = search needs
 
 returns : tie.Need-returns
-returns c = rw (c .replied .ensures) (tells-served _ _ _ _ _ _ _ _ (c .before .before .before .before .before .before .command .given .1) (c .before .before .before .tell .ensures))
+returns c = rw (c .replied .ensures) (λ format. tells-served format _ _ _ _ _ _ _ _ (c .before .before .before .before .before .before .command .given .1) (c .before .before .before .tell .ensures))
 
 returns-2 : tie.Need-returns-2
-returns-2 c = alters-served _ _ _ _ _ _ _ _ (c .before .before .command2 .given .1) (c .alters .ensures)
+returns-2 c format = alters-served format _ _ _ _ _ _ _ _ (c .before .before .command2 .given .1) (c .alters .ensures)
 
 same-length-2 : tie.Need-same-length-2
 same-length-2 c = search needs
@@ -47,7 +47,7 @@ same-length-4 : tie.Need-same-length-4
 same-length-4 c = search needs
 
 returns-3 : tie.Need-returns-3
-returns-3 c = rw (c .replied2 .ensures) (moves-served _ _ _ _ _ _ _ _ _ _ (c .before .before .before .before .before .before .before .before .before .before .before .before .command3 .given .1) (c .before .before .before .before .before .before .before .move-blocks .ensures))
+returns-3 c = rw (c .replied2 .ensures) (λ format. moves-served format _ _ _ _ _ _ _ _ _ _ (c .before .before .before .before .before .before .before .before .before .before .before .before .command3 .given .1) (c .before .before .before .before .before .before .before .move-blocks .ensures))
 
 pub act-spec : {M : Type 1} → statement M
 act-spec =

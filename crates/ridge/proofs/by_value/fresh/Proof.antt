@@ -30,7 +30,7 @@ same-length c = search needs
 returns : tie.Need-returns
 returns c =
     rw (c .number-of .ensures, c .before .if-good .ensures)
-    (freshens _ _ _ (c .before .before .before .before .before .fresh .result) _ (c .before .before .before .before .before .fresh .ensures))
+    (freshens _ _ _ _ (c .before .before .before .before .before .fresh .result) _ (c .before .before .before .before .before .fresh .ensures))
 
 pub fresh-spec : {M : Type 1} → statement M
 fresh-spec =

@@ -12,6 +12,7 @@ use Rattle.fields.specs.Bytes.{part, put, zeros}
 use Rattle.fields.proofs.BytesLaws.{zeros-replicate, put-next, put-none}
 use Rattle.answers.specs.declared.Answer.the-variants.{Good}
 use Rattle.answers.specs.Order.{firstOf, ifGoodBy, refuses}
+use Rattle.answers.specs.Sense.{fixed, formatOk}
 use Rattle.pool.specs.Valid.{capacityOk, slotsOk}
 use Rattle.store.specs.declared.Unit.{Unit}
 use Rattle.store.specs.Store.{Store, Call, Result}
@@ -26,12 +27,12 @@ use Rattle.store.proofs.Returned.{returned-fits}
 
 -- ---- a fresh store
 
-pub fresh-is : (owners : List ℕ) → length owners ≡ slots → fresh capacity owners ≡ record { answer = Good; unit = freshUnit capacity; owners = zeros slots }
-unfolding fresh freshAnswer firstOf ifGoodBy capacityOk slotsOk refuses
+pub fresh-is : (owners : List ℕ) → length owners ≡ slots → fresh capacity fixed owners ≡ record { answer = Good; unit = freshUnit capacity; owners = zeros slots }
+unfolding fresh freshAnswer firstOf ifGoodBy capacityOk slotsOk formatOk refuses
 fresh-is owners e = rw e
 
 pub fresh-store : (unit : Unit) (owners medium : List ℕ) → unit ≡ freshUnit capacity → owners ≡ zeros slots → medium ≡ replicate (512 * slots) 0
-    → storeOf unit owners medium ≡ benchStore
+    → storeOf fixed unit owners medium ≡ benchStore
 unfolding benchStore freshStore
 fresh-store unit owners medium d e q = rw (d, e, q, ← zeros-replicate (512 * slots))
 

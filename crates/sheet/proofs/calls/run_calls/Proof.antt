@@ -5,6 +5,7 @@ use Prim.Native.Nat.{_+_, _-_, _*_, _≤_}
 use native.Mathlib.Omega.{arith}
 use lib.ListN.{length}
 use borrow.Author.Needs.{needs}
+use Rattle.answers.specs.Sense.{fixed}
 use Rattle.reply.specs.Contract.{storeOf}
 use Rattle.sheet.specs.Printed.{slots, linesFrom, linesOf}
 use Rattle.contents.specs.Contents.{mostCalls, bodiesEnd}
@@ -19,7 +20,7 @@ abbrev Inv-loop : tie.InvT-loop
 Inv-loop sheet out₀ start owners₀ medium₀ unit₀ end₀ n at₀ i₀ out owners medium unit end at i =
     (i ≤ n) × (length owners ≡ slots) × (length medium ≡ 512 * slots) × (length out ≡ length out₀) × (end ≤ start + lineMost * i)
     × (bodiesEnd sheet i (n - i) at ≡ length sheet)
-    × (ToCome (linesOf sheet) out₀ start (linesFrom (storeOf unit owners medium) sheet i (n - i) at) out end)
+    × (ToCome (linesOf sheet) out₀ start (linesFrom (storeOf fixed unit owners medium) sheet i (n - i) at) out end)
 
 abbrev μ-loop : tie.MeasureT-loop
 μ-loop sheet out₀ start owners₀ medium₀ unit₀ end₀ n at₀ i₀ out owners medium unit end at i = n - i

@@ -5,13 +5,15 @@ use mathlib.Core.Bool.{Bool, true, false, cond}
 use mathlib.Core.List.{List, _∷_}
 use Prim.Native.Nat.{ℕ, _≤_}
 use native.Mathlib.Omega.{arith}
-use lib.Dec.{eqb, leb}
+use lib.Dec.{lit≤, eqb, leb}
 use lib.ListN.{length, take}
 use Rattle.fields.specs.Field.{bytes}
+use Rattle.answers.specs.declared.Refusal.{Refusal}
 use Rattle.answers.specs.declared.Codes.{Codes}
 use Rattle.answers.specs.declared.sense.Detail.{Detail}
 use Rattle.answers.specs.declared.sense.Detail.the-variants.{Nothing, Pointer, Address}
-use Rattle.answers.specs.Sense.{descriptor, fixedMost, descriptorMost, senseBytes, fixedBytes, fixedWith}
+use Rattle.answers.specs.Sense.{descriptor, fixedMost, descriptorMost, senseBytes, detailOf, fixedBytes, fixedWith, headerBytes, pointerDescriptor, addressDescriptor, descriptorOf, describedWith, senseData}
+use Rattle.answers.specs.Answers.{codesOf}
 
 -- ---- what a buffer that is long enough has room for
 
@@ -48,3 +50,19 @@ unfolding fixedWith fixedBytes bytes
 take-fixed k Nothing = refl
 take-fixed k (Pointer mark at) = refl
 take-fixed k (Address address) = take-two (leb address 0xFFFF_FFFF) _ _ refl refl
+
+-- ---- what is written never needs more than the format asks for
+
+described-most : (k : Codes) (d : Detail) → length (describedWith k d) ≤ descriptorMost
+unfolding describedWith headerBytes descriptorOf pointerDescriptor addressDescriptor bytes
+described-most k Nothing = lit≤ tt
+described-most k (Pointer mark at) = lit≤ tt
+described-most k (Address address) = lit≤ tt
+
+pub data-most : (format : ℕ) (x : Refusal) → length (senseData format x) ≤ senseBytes format
+unfolding senseData senseBytes
+data-most format x = most (eqb format descriptor)
+  where
+    most : (b : Bool) → length (cond b (describedWith (codesOf x) (detailOf x)) (fixedWith (codesOf x) (detailOf x))) ≤ cond b descriptorMost fixedMost
+    most true = described-most (codesOf x) (detailOf x)
+    most false = rw (length-fixed (codesOf x) (detailOf x)) (lit≤ tt)

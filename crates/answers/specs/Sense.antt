@@ -97,6 +97,14 @@ unfoldable pub senseData : ℕ → Refusal → List ℕ
 senseData format refusal =
     cond (eqb format descriptor) (describedWith (codesOf refusal) (detailOf refusal)) (fixedWith (codesOf refusal) (detailOf refusal))
 
+-- how many bytes of the buffer an answer writes
+unfoldable pub senseWritten : ℕ → Answer → ℕ
+senseWritten format Good = 0
+senseWritten format (Refused refusal) = length (senseData format refusal)
+senseWritten format Conflict = 0
+senseWritten format Unusable = 0
+senseWritten format Short = 0
+
 -- "Where a status is 02h the first 18 bytes of the sense buffer become fixed format … Otherwise sense is untouched, as are sense bytes past 18 always";
 -- Q-8: "In the new one the 8 header bytes and any descriptor are written and nothing past them"
 unfoldable pub senseAfter : ℕ → Answer → List ℕ → List ℕ

@@ -12,7 +12,7 @@ use Rattle.answers.specs.declared.Refusal.{Refusal}
 use Rattle.answers.specs.declared.Refusal.the-variants.{OutOfRange, ListLength, NoPlace, OtherType, NoRoom}
 use Rattle.answers.specs.declared.Answer.{Answer}
 use Rattle.answers.specs.declared.Answer.the-variants.{Good, Refused, Conflict, Unusable, Short}
-use Rattle.answers.specs.Answers.{plain, codesOf, numberOf, notListed, invalidField, listField}
+use Rattle.answers.specs.Answers.{codesOf, numberOf, notListed, invalidField, listLength, listField, noPlace, otherType}
 use Rattle.answers.specs.Order.{Row, _if_, first, next, refuses, refusing, firstOf, refusingBy}
 use Rattle.answers.proofs.OrderLaws.{next-after, next-refuses, good-cases}
 use Rattle.pool.specs.Pool.{Pool}
@@ -71,9 +71,9 @@ none P rows good e = first-is (λ a. T (not (P a))) rows good e
 -- ---- rows before the fields
 
 module _ (Q : Answer → Type 0) where
-  pub call-each : (c : Call) → Q Unusable → Each Q (callRows c)
+  pub call-each : (format : ℕ) (c : Call) → Q Unusable → Each Q (callRows format c)
   unfolding callRows Each
-  call-each c u = (u, (u, (u, tt)))
+  call-each format c u = (u, (u, (u, tt)))
 
   pub store-each : (s : Store) → Q Unusable → Each Q (storeRows s)
   unfolding storeRows Each
@@ -117,40 +117,64 @@ namedBytes = 24
 unfoldable pub says : ℕ → Answer → Bool
 says n a = eqb (numberOf a) n
 
--- what a rule must hold of, to hold of all of them
-pub record OwnAnswers (Q : Answer → Type 0) : Type 0 where
+-- what a rule must hold of, to hold of all rows of PERSISTENT RESERVE OUT
+pub record AlterAnswers (Q : Answer → Type 0) : Type 0 where
   pub short : Q Short
   pub conflict : Q Conflict
-  pub nowhere : (r : Refusal) → T (not (says 2 (Refused (plain r)))) → T (not (says 5 (Refused (plain r)))) → Q (Refused (plain r))
+  pub no-length : Q listLength
+  pub no-place : Q noPlace
+  pub other-type : Q otherType
   pub named : (b : Bits) → T (fits namedBytes (firstByte b) (topBit b) (bitCount b)) → Q (listField b)
 
-module _ (Q : Answer → Type 0) (w : OwnAnswers Q) where
-  moves-each : (m : Move) (q : Request) (capacity : ℕ) (p : Pool) (c : Call) → Each Q (moveRows m q capacity p c)
-  unfolding moveRows readRows writeRows sameRows unmapRows statusRows Each says numberOf codesOf fits firstByte topBit bitCount
-  moves-each Read q capacity p c = (w .nowhere OutOfRange tt tt, (w .short, tt))
-  moves-each Write q capacity p c = (w .nowhere OutOfRange tt tt, (w .short, (w .nowhere NoRoom tt tt, tt)))
-  moves-each WriteSame q capacity p c = (w .nowhere OutOfRange tt tt, (w .short, (w .nowhere NoRoom tt tt, tt)))
-  moves-each Unmap q capacity p c = (w .nowhere ListLength tt tt, (w .short, (w .named dataLengthBits tt, (w .nowhere OutOfRange tt tt, tt))))
-  moves-each Status q capacity p c = (w .nowhere OutOfRange tt tt, (w .short, tt))
-
+module _ (Q : Answer → Type 0) (w : AlterAnswers Q) where
   flags-each : (o : Parameters) → Each Q (registerFlags o)
   unfolding registerFlags Each fits firstByte topBit bitCount
   flags-each o = (w .named (within flagsByte 3 1) tt, (w .named (within flagsByte 2 1) tt, (w .named (within flagsByte 0 1) tt, tt)))
 
   actions-each : (a : Action) (r : Rights) (n : ℕ) (o : Parameters) → Each Q (decisionRows a r n o)
-  unfolding decisionRows flagRows actionRows Each says numberOf codesOf fits firstByte topBit bitCount
-  actions-each Register r n o = each-append Q (registerFlags o) _ (flags-each o) (w .conflict, (w .nowhere NoPlace tt tt, tt))
+  unfolding decisionRows flagRows actionRows Each fits firstByte topBit bitCount
+  actions-each Register r n o = each-append Q (registerFlags o) _ (flags-each o) (w .conflict, (w .no-place, tt))
   actions-each Reserve r n o = (w .conflict, (w .conflict, tt))
-  actions-each Release r n o = (w .conflict, (w .nowhere OtherType tt tt, tt))
+  actions-each Release r n o = (w .conflict, (w .other-type, tt))
   actions-each Clear r n o = (w .conflict, tt)
   actions-each Preempt r n o = (w .conflict, (w .named serviceKeyBits tt, (w .conflict, tt)))
-  actions-each RegisterIgnoring r n o = each-append Q (registerFlags o) _ (flags-each o) (w .conflict, (w .nowhere NoPlace tt tt, tt))
+  actions-each RegisterIgnoring r n o = each-append Q (registerFlags o) _ (flags-each o) (w .conflict, (w .no-place, tt))
+
+  pub alter-each : (a : Action) (q : Request) (r : Rights) (n : ℕ) (dataOut : List ℕ) → Each Q (alterRows a q r n dataOut)
+  unfolding alterRows Each
+  alter-each a q r n dataOut = (w .no-length, (w .short, actions-each a r n (parametersOf q dataOut)))
+
+-- and of all rows of a command's own
+pub record OwnAnswers (Q : Answer → Type 0) : Type 0 where
+  pub short : Q Short
+  pub conflict : Q Conflict
+  pub nowhere : (r : Refusal) → T (not (says 2 (Refused r))) → T (not (says 5 (Refused r))) → Q (Refused r)
+  pub named : (b : Bits) → T (fits namedBytes (firstByte b) (topBit b) (bitCount b)) → Q (listField b)
+
+module _ (Q : Answer → Type 0) (w : OwnAnswers Q) where
+  moves-each : (m : Move) (q : Request) (capacity : ℕ) (p : Pool) (c : Call) → Each Q (moveRows m q capacity p c)
+  unfolding moveRows readRows writeRows sameRows unmapRows statusRows Each says numberOf codesOf fits firstByte topBit bitCount
+  moves-each Read q capacity p c = (w .nowhere (OutOfRange _) tt tt, (w .short, tt))
+  moves-each Write q capacity p c = (w .nowhere (OutOfRange _) tt tt, (w .short, (w .nowhere (NoRoom _) tt tt, tt)))
+  moves-each WriteSame q capacity p c = (w .nowhere (OutOfRange _) tt tt, (w .short, (w .nowhere (NoRoom _) tt tt, tt)))
+  moves-each Unmap q capacity p c = (w .nowhere ListLength tt tt, (w .short, (w .named dataLengthBits tt, (w .nowhere (OutOfRange _) tt tt, tt))))
+  moves-each Status q capacity p c = (w .nowhere (OutOfRange _) tt tt, (w .short, tt))
 
   command-each : (k : Command) (q : Request) (s : Store) (c : Call) → Each Q (commandRows k q s c)
-  unfolding commandRows tellRows alterRows Each says numberOf codesOf
+  unfolding commandRows tellRows Each says numberOf codesOf
   command-each (Tells t) q s c = (w .short, tt)
   command-each (Moves m) q s c = moves-each m q (s .unit .capacity) (s .pool) c
-  command-each (Alters a) q s c = (w .nowhere ListLength tt tt, (w .short, actions-each a (s .unit .rights) (c .nexus) (parametersOf q (c .dataOut))))
+  command-each (Alters a) q s c =
+      alter-each Q
+      (record {
+        short = w .short;
+        conflict = w .conflict;
+        no-length = w .nowhere ListLength tt tt;
+        no-place = w .nowhere NoPlace tt tt;
+        other-type = w .nowhere OtherType tt tt;
+        named = w .named;
+      })
+      a q (s .unit .rights) (c .nexus) (c .dataOut)
 
   pub own-each : (x : Asked) (s : Store) (c : Call) → Each Q (ownRows x s c)
   unfolding ownRows Each
@@ -179,7 +203,7 @@ staged s c = next (codeAnswer c) (next (lengthAnswer c) (next (fieldAnswer c) (l
 
 -- the call comes as far as its fields
 pub record AtFields (s : Store) (c : Call) : Type 0 where
-  pub call : callAnswer c ≡ Good
+  pub call : callAnswer (s .format) c ≡ Good
   pub store : T (usable s)
   pub code : codeAnswer c ≡ Good
   pub length : lengthAnswer c ≡ Good
@@ -199,18 +223,23 @@ module _ (P : Answer → Bool) where
       good-cases a (λ g. absurd (T-not (P b) n (rw (next-after a b g) at t))) (λ r. next-refuses a b r)
 
   module _ (good : T (not (P Good))) (unusable : T (not (P Unusable))) (s : Store) (c : Call) (h : T (P (answerTo s c))) where
-    past-call : (callAnswer c ≡ Good) × T (P (next (storeAnswer s) (staged s c)))
-    past-call = past (callAnswer c) _ (none P _ good (call-each _ c unusable)) (rw (parts s c) at h)
+    past-call : (callAnswer (s .format) c ≡ Good) × T (P (next (storeAnswer s) (staged s c)))
+    past-call = past (callAnswer (s .format) c) _ (none P _ good (call-each _ (s .format) c unusable)) (rw (parts s c) at h)
 
-    pub at-call : callAnswer c ≡ Good
+    pub at-call : callAnswer (s .format) c ≡ Good
     at-call = past-call .0
+
+    past-store : (storeAnswer s ≡ Good) × T (P (staged s c))
+    past-store = past (storeAnswer s) _ (none P _ good (store-each _ s unusable)) (past-call .1)
+
+    pub at-store : T (usable s)
+    at-store = passes-usable s (past-store .0)
 
     pub at-fields : T (not (P notListed)) → AtFields s c
     at-fields unlisted =
-        let stored = past (storeAnswer s) _ (none P _ good (store-each _ s unusable)) (past-call .1) in
-        let coded = past (codeAnswer c) _ (none P _ good (code-each _ (entryOf (c .cdb)) unlisted)) (stored .1) in
+        let coded = past (codeAnswer c) _ (none P _ good (code-each _ (entryOf (c .cdb)) unlisted)) (past-store .1) in
         let long = past (lengthAnswer c) _ (none P _ good (length-each _ (entryOf (c .cdb)) (c .cdb) unusable)) (coded .1) in
-        record { call = at-call; store = passes-usable s (stored .0); code = coded .0; length = long .0 }
+        record { call = at-call; store = at-store; code = coded .0; length = long .0 }
 
 -- ---- 2
 
@@ -232,29 +261,51 @@ module _ (s : Store) (c : Call) (h : T (says 2 (answerTo s c))) where
       fields-decide s c two-reaches
       ∙ behind (says 2) (fieldAnswer c) (later s c) later-not-two (rw (fields-decide s c two-reaches) at h)
 
--- ---- 5
+-- ---- 3, 5 and 8: numbers that only a command's own tests answer
 
-module _ (s : Store) (c : Call) (h : T (says 5 (answerTo s c))) where
-  five-reaches : AtFields s c
-  unfolding says numberOf codesOf
-  five-reaches = at-fields (says 5) tt tt s c h tt
+pub record OwnNumber (n : ℕ) : Type 0 where
+  pub good : T (not (says n Good))
+  pub unusable : T (not (says n Unusable))
+  pub unlisted : T (not (says n notListed))
+  pub field : (b : Bits) → T (not (says n (invalidField b)))
+  pub conflict : T (not (says n Conflict))
 
-  past-fields : (fieldAnswer c ≡ Good) × T (says 5 (later s c))
-  unfolding says numberOf codesOf
+module _ (n : ℕ) (w : OwnNumber n) (s : Store) (c : Call) (h : T (says n (answerTo s c))) where
+  own-reaches : AtFields s c
+  own-reaches = at-fields (says n) (w .good) (w .unusable) s c h (w .unlisted)
+
+  past-fields : (fieldAnswer c ≡ Good) × T (says n (later s c))
   past-fields =
-      past (says 5) (fieldAnswer c) (later s c)
-      (none (says 5) _ tt (field-each _ (entryOf (c .cdb)) (c .cdb) (λ b. tt)))
-      (rw (fields-decide s c five-reaches) at h)
+      past (says n) (fieldAnswer c) (later s c)
+      (none (says n) _ (w .good) (field-each _ (entryOf (c .cdb)) (c .cdb) (w .field)))
+      (rw (fields-decide s c own-reaches) at h)
 
-  past-guard : (guardAnswer (s .unit) c ≡ Good) × T (says 5 (ownAnswer s c))
-  unfolding says numberOf
+  past-guard : (guardAnswer (s .unit) c ≡ Good) × T (says n (ownAnswer s c))
   past-guard =
-      past (says 5) (guardAnswer (s .unit) c) (ownAnswer s c)
-      (none (says 5) _ tt (guard-each _ (askedOf (c .cdb)) (s .unit .rights) (c .nexus) tt))
+      past (says n) (guardAnswer (s .unit) c) (ownAnswer s c)
+      (none (says n) _ (w .good) (guard-each _ (askedOf (c .cdb)) (s .unit .rights) (c .nexus) (w .conflict)))
       (past-fields .1)
 
   -- it is the answer of the command's own tests
-  pub five-is : answerTo s c ≡ ownAnswer s c
-  five-is =
-      fields-decide s c five-reaches ∙ next-after (fieldAnswer c) (later s c) (past-fields .0)
+  pub own-is : answerTo s c ≡ ownAnswer s c
+  own-is =
+      fields-decide s c own-reaches ∙ next-after (fieldAnswer c) (later s c) (past-fields .0)
       ∙ next-after (guardAnswer (s .unit) c) (ownAnswer s c) (past-guard .0)
+
+  pub own-says : T (says n (ownAnswer s c))
+  own-says = past-guard .1
+
+pub three-own : OwnNumber 3
+unfolding says numberOf codesOf
+three-own = record { good = tt; unusable = tt; unlisted = tt; field = λ b. tt; conflict = tt }
+
+pub five-own : OwnNumber 5
+unfolding says numberOf codesOf
+five-own = record { good = tt; unusable = tt; unlisted = tt; field = λ b. tt; conflict = tt }
+
+pub eight-own : OwnNumber 8
+unfolding says numberOf codesOf
+eight-own = record { good = tt; unusable = tt; unlisted = tt; field = λ b. tt; conflict = tt }
+
+pub five-is : (s : Store) (c : Call) → T (says 5 (answerTo s c)) → answerTo s c ≡ ownAnswer s c
+five-is = own-is 5 five-own

@@ -1,19 +1,20 @@
 -- The demands at the C interface: one call of `ridge_execute` is one step, so what holds of `step` over a history holds of a program in C.
 -- Assumes nothing.
-use mathlib.Core.Path.{_≡_, refl, ap, ap₂, _∙_}
+use mathlib.Core.Path.{_≡_, refl, sym, ap, ap₂, _∙_, subst}
 use mathlib.Core.Logic.{_≢_}
-use mathlib.Core.Bool.{not}
+use mathlib.Core.Bool.{Bool, true, false, not, _&&_}
 use mathlib.Core.List.{List, [], _∷_, map}
 use Prim.Native.Nat.{ℕ}
 use lib.Dec.{T}
-use lib.ListN.{length}
+use lib.ListN.{length, drop}
 use Rattle.fields.specs.Bytes.{zeros}
 use Rattle.fields.proofs.Tests.{both}
 use Rattle.answers.specs.declared.Refusal.{Refusal}
 use Rattle.answers.specs.declared.Refusal.the-variants.{NotListed, InvalidField, OutOfRange, ListLength, ListField, NoPlace, OtherType, NoRoom}
 use Rattle.answers.specs.declared.Answer.{Answer}
 use Rattle.answers.specs.declared.Answer.the-variants.{Good, Refused, Conflict, Unusable, Short}
-use Rattle.answers.specs.Answers.{codesOf, numberOf, senseAfter}
+use Rattle.answers.specs.Answers.{codesOf, numberOf}
+use Rattle.answers.specs.Sense.{formatOk, senseWritten, senseAfter}
 use Rattle.answers.specs.Order.{ifGoodBy, refuses}
 use Rattle.pool.specs.Valid.{capacityOk, slotsOk}
 use Rattle.rights.specs.Rights.{isOneOf}
@@ -21,21 +22,24 @@ use Rattle.store.specs.declared.Unit.{Unit}
 use Rattle.store.specs.Store.{Store, Call, usable}
 use Rattle.store.specs.Fresh.{freshUnit, freshStore}
 use Rattle.store.specs.Step.{step}
+use Rattle.store.proofs.StoreLaws.{store-is, format-kept}
 use Rattle.ridge.specs.Interface.{leftBy, executed, FreshLeft, freshBy, freshened}
 use Rattle.demands.specs.History.{Event, call, after, afterEvent, machine, afterAll, seenAll}
 use Rattle.demands.specs.Contents.{plain}
 use Rattle.demands.specs.Demands.{Secrecy}
+use Rattle.demands.specs.SenseRead.{senseLong}
 use Rattle.demands.specs.AtC.{toldBy, storeIn, onward, program, begun, toldOf, Faithful, Kept, Demand1AtC, Demand3AtC}
 use Rattle.demands.proofs.Usable.{usable-stays, owners-stay, medium-stays}
-use Rattle.demands.proofs.Fresh.{fresh-made}
+use Rattle.demands.proofs.Fresh.{fresh-made, fresh-refused}
 use Rattle.demands.proofs.Demand1.{step-listed, refused-store, refused-data, refused-none, sense-table, sense-past, data-past, data-length, sense-length}
 use Rattle.demands.proofs.Demand3 as D
+use Rattle.demands.proofs.SenseTold.{long-read}
 
 -- ---- one call of C is one step
 
-pub one-store : (s : Store) (c : Call) → storeIn (executed s c) ≡ after step s c
+pub one-store : (s : Store) (c : Call) → storeIn (s .format) (executed s c) ≡ after step s c
 unfolding storeIn executed leftBy after
-one-store s c = refl
+one-store s c = store-is _ (step s c .store) (sym (format-kept s c)) refl refl
 
 pub one-told : (s : Store) (c : Call) → toldBy (executed s c) ≡ toldOf (step s c .seen)
 unfolding toldBy toldOf executed leftBy
@@ -61,18 +65,33 @@ sights-are s (call c ∷ es) =
 
 -- ---- a history begins
 
-module _ (capacity : ℕ) (u : Unit) (owners : List ℕ) (b : T (capacityOk capacity)) (n : T (slotsOk (length owners))) where
-  made : freshened capacity u owners ≡ freshBy u (record { answer = Good; unit = freshUnit capacity; owners = zeros (length owners) })
+module _ (capacity format : ℕ) (u : Unit) (owners : List ℕ) (b : T (capacityOk capacity)) (f : T (formatOk format)) (n : T (slotsOk (length owners))) where
+  made : freshened capacity format u owners ≡ freshBy u (record { answer = Good; unit = freshUnit capacity; owners = zeros (length owners) })
   unfolding freshened
-  made = ap (freshBy u) (fresh-made capacity owners (both (capacityOk capacity) (slotsOk (length owners)) b n))
+  made = ap (freshBy u) (fresh-made capacity format owners (both (capacityOk capacity) _ b (both (formatOk format) (slotsOk (length owners)) f n)))
 
-  pub fresh-zero : freshened capacity u owners .answer ≡ 0
+  pub fresh-zero : freshened capacity format u owners .answer ≡ 0
   unfolding freshBy numberOf
   fresh-zero = ap (λ (x : FreshLeft). x .answer) made
 
-  pub fresh-begins : (medium : List ℕ) → begun (freshened capacity u owners) medium ≡ freshStore capacity (length owners) medium
+  pub fresh-begins : (medium : List ℕ) → begun format (freshened capacity format u owners) medium ≡ freshStore capacity format (length owners) medium
   unfolding freshBy begun freshStore ifGoodBy refuses
-  fresh-begins medium = ap (λ (x : FreshLeft). begun x medium) made
+  fresh-begins medium = ap (λ (x : FreshLeft). begun format x medium) made
+
+module _ (capacity format : ℕ) (u : Unit) (owners : List ℕ) (f : T (not (formatOk format))) where
+  unmade : freshened capacity format u owners ≡ record { answer = 11; unit = u; owners = owners }
+  unfolding freshened freshBy numberOf ifGoodBy refuses
+  unmade = ap (freshBy u) (fresh-refused capacity format owners (no-middle (capacityOk capacity) (formatOk format) (slotsOk (length owners)) f))
+    where
+      no-middle : (a b d : Bool) → T (not b) → T (not (a && (b && d)))
+      no-middle true true d t = absurd t
+      no-middle true false d t = tt
+      no-middle false b d t = tt
+
+  pub format-refused : (freshened capacity format u owners .answer ≡ 11) × (freshened capacity format u owners .unit ≡ u)
+      × (freshened capacity format u owners .owners ≡ owners)
+  format-refused =
+      (ap (λ (x : FreshLeft). x .answer) unmade, ap (λ (x : FreshLeft). x .unit) unmade, ap (λ (x : FreshLeft). x .owners) unmade)
 
 pub faithful : Faithful
 unfolding after
@@ -82,7 +101,8 @@ faithful = record {
   stores = stores-are;
   sights = sights-are;
   fresh-answer = fresh-zero;
-  fresh-store = λ capacity u owners medium b n. fresh-begins capacity u owners b n medium;
+  fresh-store = λ capacity format u owners medium b f n. fresh-begins capacity format u owners b f n medium;
+  fresh-refused = format-refused;
 }
 
 -- ---- demand 1
@@ -108,6 +128,10 @@ onward-usable : (s : Store) (e : Event) → T (usable s) → T (usable (onward s
 unfolding onward
 onward-usable s (call c) u = rw (one-store s c) (usable-stays s c u)
 
+onward-format : (s : Store) (e : Event) → onward s e .format ≡ s .format
+unfolding onward storeIn
+onward-format s (call c) = refl
+
 pub usable-ever : (s : Store) (es : List Event) → T (usable s) → T (usable (afterAll program s es))
 unfolding afterAll
 usable-ever s [] u = u
@@ -118,20 +142,32 @@ refusal-numbered : (r : Refusal) → T (not (isOneOf (codesOf r .number) (0 ∷ 
 unfolding codesOf isOneOf
 refusal-numbered NotListed = tt
 refusal-numbered (InvalidField at top n) = tt
-refusal-numbered OutOfRange = tt
+refusal-numbered (OutOfRange address) = tt
 refusal-numbered ListLength = tt
 refusal-numbered (ListField at top n) = tt
 refusal-numbered NoPlace = tt
 refusal-numbered OtherType = tt
-refusal-numbered NoRoom = tt
+refusal-numbered (NoRoom address) = tt
 
-sense-left : (a : Answer) (l : List ℕ) → T (isOneOf (numberOf a) (0 ∷ 10 ∷ 11 ∷ 12 ∷ [])) → senseAfter a l ≡ l
+sense-left : (format : ℕ) (a : Answer) (l : List ℕ) → T (isOneOf (numberOf a) (0 ∷ 10 ∷ 11 ∷ 12 ∷ [])) → senseAfter format a l ≡ l
 unfolding numberOf senseAfter
-sense-left Good l t = refl
-sense-left (Refused x) l t = D.never (isOneOf (codesOf (x .refusal) .number) (0 ∷ 10 ∷ 11 ∷ 12 ∷ [])) t (refusal-numbered (x .refusal))
-sense-left Conflict l t = refl
-sense-left Unusable l t = refl
-sense-left Short l t = refl
+sense-left format Good l t = refl
+sense-left format (Refused x) l t = D.never (isOneOf (codesOf x .number) (0 ∷ 10 ∷ 11 ∷ 12 ∷ [])) t (refusal-numbered x)
+sense-left format Conflict l t = refl
+sense-left format Unusable l t = refl
+sense-left format Short l t = refl
+
+-- and a number with sense tells that it is written, up to what its byte 7 says
+past-long : (a : Answer) (s : Store) (c : Call) → step s c .seen .answer ≡ a → T (isOneOf (numberOf a) (1 ∷ 2 ∷ 3 ∷ 4 ∷ 5 ∷ 6 ∷ 7 ∷ 8 ∷ []))
+    → drop (senseLong (step s c .seen .sense)) (step s c .seen .sense) ≡ drop (senseLong (step s c .seen .sense)) (c .sense)
+unfolding numberOf isOneOf
+past-long Good s c e t = absurd t
+past-long (Refused x) s c e t =
+    rw (long-read s c x e)
+    (subst (λ (a : Answer). drop (senseWritten (s .format) a) (step s c .seen .sense) ≡ drop (senseWritten (s .format) a) (c .sense)) e (sense-past s c))
+past-long Conflict s c e t = absurd t
+past-long Unusable s c e t = absurd t
+past-long Short s c e t = absurd t
 
 pub demand-1-at-c : Demand1AtC
 unfolding executed leftBy after
@@ -139,8 +175,8 @@ demand-1-at-c = record {
   listed = step-listed;
   refusal-keeps = refusal-keeps;
   usable-ever = usable-ever;
-  sense-kept = λ s c t. sense-table s c ∙ sense-left (step s c .seen .answer) (c .sense) t;
-  sense-past = sense-past;
+  sense-kept = λ s c t. sense-table s c ∙ sense-left (s .format) (step s c .seen .answer) (c .sense) t;
+  sense-past = λ s c t. past-long (step s c .seen .answer) s c refl t;
   data-past = data-past;
   data-length = data-length;
   sense-length = sense-length;
@@ -153,10 +189,10 @@ demand-1-at-c = record {
 pub secrecy-at-c : Secrecy program plain
 unfolding onward storeIn toldBy toldOf executed leftBy after
 secrecy-at-c =
-    D.secrecy-by program plain D.plain-unit D.plain-usable onward-usable
-    (λ s t c u v e k. ap toldOf (D.kept-seen s t c u v e k)) D.kept-unit D.unkept-unit
-    (λ s t c n. ap toldOf (D.nobody-learns c n s t)) (λ s c n. D.nobody-still c n s)
+    D.secrecy-by program plain D.plain-format D.plain-unit D.plain-usable onward-usable onward-format
+    (λ s t c u v f e k. ap toldOf (D.kept-seen s t c u v f e k)) D.kept-unit D.unkept-unit
+    (λ s t c n. ap toldOf (D.nobody-learns c n s t)) (λ s c n. one-store s c ∙ D.nobody-still c n s)
 
 pub demand-3-at-c : Demand3AtC
 unfolding storeIn executed leftBy after
-demand-3-at-c = record { secrecy = secrecy-at-c; still = D.shut-out-still; out-pool = D.out-pool }
+demand-3-at-c = record { secrecy = secrecy-at-c; still = λ s c o h. one-store s c ∙ D.shut-out-still s c o h; out-pool = D.out-pool }

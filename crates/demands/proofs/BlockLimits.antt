@@ -23,7 +23,7 @@ use Rattle.answers.proofs.OrderLaws.{row-pass, row-stop}
 use Rattle.pool.specs.Pool.{Pool, mapped, unmapBlocks}
 use Rattle.pool.proofs.Reading.{read-unmapped, block-read}
 use Rattle.descriptors.specs.declared.Descriptor.{Descriptor}
-use Rattle.descriptors.specs.Descriptors.{dataLengthBits, descriptorAt, fails, someFails}
+use Rattle.descriptors.specs.Descriptors.{dataLengthBits, descriptorAt, fails, someFails, firstFailing, addressOf}
 use Rattle.descriptors.proofs.Takes.{passes-within, none-here, none-later}
 use Rattle.forms.specs.declared.Tell.the-variants.{Capacity16}
 use Rattle.forms.specs.declared.Move.the-variants.{Unmap}
@@ -47,11 +47,11 @@ use Rattle.demands.proofs.WriteSame.{range-unmapped, writes-same}
 -- ---- how many descriptors
 
 -- of the two rows the first alone answers 5
-first-given : (b : Bits) (x y : Bool) → numberOf (first (listField b if x ∷ outOfRange if y ∷ [])) ≡ 5 → x ≡ true
+first-given : (b : Bits) (address : ℕ) (x y : Bool) → numberOf (first (listField b if x ∷ outOfRange address if y ∷ [])) ≡ 5 → x ≡ true
 unfolding firstOf numberOf codesOf
-first-given b true y e = refl
-first-given b false true e = absurd (omega arith)
-first-given b false false e = absurd (omega arith)
+first-given b address true y e = refl
+first-given b address false true e = absurd (omega arith)
+first-given b address false false e = absurd (omega arith)
 
 module _ (s : Store) (c : Call) (a : Asks Unmap c) (r : Reaches s a) (l : ListThere a) where
   header-there : (leb 1 (listLengthIn (a .request)) && leb (listLengthIn (a .request)) 7) ≡ false
@@ -61,14 +61,16 @@ module _ (s : Store) (c : Call) (a : Asks Unmap c) (r : Reaches s a) (l : ListTh
 
   -- a list that is there is tested for its descriptors alone
   descriptors-tested : step s c .seen .answer
-      ≡ first (listField dataLengthBits if ltb 16 (descriptorsIn a) ∷ outOfRange if someFails (s .unit .capacity) (c .dataOut) 8 (descriptorsIn a) ∷ [])
+      ≡ first (listField dataLengthBits if ltb 16 (descriptorsIn a)
+      ∷ outOfRange (addressOf (firstFailing (s .unit .capacity) (c .dataOut) 8 (descriptorsIn a))) if someFails (s .unit .capacity) (c .dataOut) 8 (descriptorsIn a)
+      ∷ [])
   unfolding moveRows unmapRows descriptorsIn
   descriptors-tested = rows-answer Unmap s c a r ∙ row-pass listLength _ _ header-there ∙ row-pass Short _ _ (le-ltb _ _ (l .there))
 
   pub descriptors-refused : numberOf (step s c .seen .answer) ≡ 5 ↔ 16 < descriptorsIn a
   unfolding numberOf codesOf
   descriptors-refused = (
-    λ e. ltb-true 16 (descriptorsIn a) (first-given dataLengthBits _ _ (sym (ap numberOf descriptors-tested) ∙ e)),
+    λ e. ltb-true 16 (descriptorsIn a) (first-given dataLengthBits _ _ _ (sym (ap numberOf descriptors-tested) ∙ e)),
     λ h. ap numberOf (descriptors-tested ∙ row-stop (listField dataLengthBits) _ _ (lt-ltb 16 (descriptorsIn a) h)),
   )
 

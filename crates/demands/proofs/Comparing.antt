@@ -15,6 +15,7 @@ use Rattle.rights.specs.declared.Rights.{Rights}
 use Rattle.store.specs.declared.Unit.{Unit}
 use Rattle.store.specs.Store.{Store, Seen}
 use Rattle.store.specs.Step.{step}
+use Rattle.store.proofs.StoreLaws.{store-is}
 use Rattle.demands.specs.Checker.{Want, same, sameStatus, samePlaces, sameRights, sameUnit, samePool, numberShows, statusShows, senseShows, returnedShows, dataShows, ends, whole, met, passedBy, passed}
 use Rattle.demands.specs.Cases.{caseA, caseF, caseH}
 use Rattle.demands.specs.FurtherCases.{caseCounts}
@@ -122,10 +123,11 @@ pool-equal p q t =
 pub ends-equal : (w s : Store) → T (ends w s) → s ≡ w
 unfolding ends
 ends-equal w s t =
+    let f = eqb (s .format) (w .format) in
     let u = sameUnit (s .unit) (w .unit) in
     let p = samePool (s .pool) (w .pool) in
-    ap₂ (λ (x : Unit) (y : Pool). record { unit = x; pool = y }) (unit-equal (s .unit) (w .unit) (and-l u p t))
-    (pool-equal (s .pool) (w .pool) (and-r u p t))
+    let r = and-r f (u && p) t in
+    store-is s w (eqb→eq (s .format) (w .format) (and-l f (u && p) t)) (unit-equal (s .unit) (w .unit) (and-l u p r)) (pool-equal (s .pool) (w .pool) (and-r u p r))
 
 -- and all that a call shows is as wanted
 pub met-equal : (w : Want) (x : Seen) → T (met (whole .shows) w x) → Shown w x

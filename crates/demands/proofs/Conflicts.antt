@@ -96,7 +96,7 @@ moves-none Unmap q capacity p c = tt
 moves-none Status q capacity p c = tt
 
 -- it is answered 10 exactly where the table has a conflict
-pub move-decided : (m : Move) (s : Store) (c : Call) → Asks m c → T (usable s) → byItself c ≡ Good
+pub move-decided : (m : Move) (s : Store) (c : Call) → Asks m c → T (usable s) → byItself (s .format) c ≡ Good
     → step s c .seen .answer ≡ Conflict ↔ T (conflict (s .unit .rights) (c .nexus) (Moves m))
 move-decided m s c a u g = (
   λ e. test (conflict (s .unit .rights) (c .nexus) (Moves m)) (λ t. t)
@@ -106,7 +106,7 @@ move-decided m s c a u g = (
 )
 
 -- and so where the lines of the types and senders have one
-pub conflict-table : (m : Move) (s : Store) (c : Call) → Asks m c → T (usable s) → byItself c ≡ Good
+pub conflict-table : (m : Move) (s : Store) (c : Call) → Asks m c → T (usable s) → byItself (s .format) c ≡ Good
     → step s c .seen .answer ≡ Conflict ↔ T (stopped s c m)
 conflict-table m s c a u g =
     subst (λ (b : Bool). step s c .seen .answer ≡ Conflict ↔ T b) (rule-stopped m s c u) (move-decided m s c a u g)
@@ -127,7 +127,7 @@ unfolding lengthRows refusingBy notTen
 length-none (Listed code) cdb = tt
 length-none Unlisted cdb = tt
 
-fixed-none : (s : Store) (c : Call) → T (noTen (callRows c)) × T (noTen (storeRows s)) × T (noTen (codeRows (entryOf (c .cdb))))
+fixed-none : (s : Store) (c : Call) → T (noTen (callRows (s .format) c)) × T (noTen (storeRows s)) × T (noTen (codeRows (entryOf (c .cdb))))
 unfolding callRows storeRows codeRows refusingBy notTen
 fixed-none s c = (tt, tt, tt)
 
@@ -145,7 +145,7 @@ module _ (t : Tell) (s : Store) (c : Call) (w : AsksFor (Tells t) c) where
   tells-pass e =
       none-ten (answerTo s c)
       (rw (parts s c)
-      (next-none (callAnswer c) _ (first-none _ (fixed-none s c .0))
+      (next-none (callAnswer (s .format) c) _ (first-none _ (fixed-none s c .0))
       (next-none (storeAnswer s) _ (first-none _ (fixed-none s c .1))
       (next-none (codeAnswer c) _ (first-none _ (fixed-none s c .2))
       (next-none (lengthAnswer c) _ (first-none _ (length-none (entryOf (c .cdb)) (c .cdb)))

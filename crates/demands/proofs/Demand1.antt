@@ -8,13 +8,13 @@ use native.Mathlib.Omega.{arith}
 use lib.Dec.{T}
 use lib.ListN.{length, drop}
 use Rattle.fields.specs.Bytes.{put}
-use Rattle.fields.specs.Field.{bytes}
 use Rattle.fields.proofs.BytesLaws.{length-put, drop-put}
 use Rattle.answers.specs.declared.Refusal.{Refusal}
 use Rattle.answers.specs.declared.Refusal.the-variants.{NotListed, InvalidField, OutOfRange, ListLength, ListField, NoPlace, OtherType, NoRoom}
 use Rattle.answers.specs.declared.Answer.{Answer}
 use Rattle.answers.specs.declared.Answer.the-variants.{Good, Refused, Conflict, Unusable, Short}
-use Rattle.answers.specs.Answers.{codesOf, numberOf, fixedFormat, senseAfter}
+use Rattle.answers.specs.Answers.{codesOf, numberOf}
+use Rattle.answers.specs.Sense.{senseData, senseWritten, senseAfter}
 use Rattle.answers.specs.Order.{ifGood, ifGoodBy, refuses}
 use Rattle.answers.proofs.OrderLaws.{if-refused, good-cases}
 use Rattle.rights.specs.Rights.{isOneOf}
@@ -35,17 +35,17 @@ refusal-listed : (r : Refusal) → T (isOneOf (codesOf r .number) numbers)
 unfolding codesOf isOneOf
 refusal-listed NotListed = tt
 refusal-listed (InvalidField at top n) = tt
-refusal-listed OutOfRange = tt
+refusal-listed (OutOfRange address) = tt
 refusal-listed ListLength = tt
 refusal-listed (ListField at top n) = tt
 refusal-listed NoPlace = tt
 refusal-listed OtherType = tt
-refusal-listed NoRoom = tt
+refusal-listed (NoRoom address) = tt
 
 answer-listed : (a : Answer) → T (isOneOf (numberOf a) numbers)
 unfolding numberOf isOneOf
 answer-listed Good = tt
-answer-listed (Refused s) = refusal-listed (s .refusal)
+answer-listed (Refused x) = refusal-listed x
 answer-listed Conflict = tt
 answer-listed Unusable = tt
 answer-listed Short = tt
@@ -73,25 +73,26 @@ module _ (s : Store) (c : Call) (d : step s c .seen .answer ≢ Good) where
 
 -- ---- the buffers
 
-pub sense-table : (s : Store) (c : Call) → step s c .seen .sense ≡ senseAfter (step s c .seen .answer) (c .sense)
+pub sense-table : (s : Store) (c : Call) → step s c .seen .sense ≡ senseAfter (s .format) (step s c .seen .answer) (c .sense)
 unfolding step stepBy seenOf
 sense-table s c = refl
 
-sense-past-by : (a : Answer) (l : List ℕ) → drop 18 (senseAfter a l) ≡ drop 18 l
-unfolding senseAfter fixedFormat bytes
-sense-past-by Good l = refl
-sense-past-by (Refused n) l = drop-put l 0 _ 18 (omega arith)
-sense-past-by Conflict l = refl
-sense-past-by Unusable l = refl
-sense-past-by Short l = refl
+module _ (format : ℕ) where
+  sense-past-by : (a : Answer) (l : List ℕ) → drop (senseWritten format a) (senseAfter format a l) ≡ drop (senseWritten format a) l
+  unfolding senseWritten senseAfter
+  sense-past-by Good l = refl
+  sense-past-by (Refused x) l = drop-put l 0 (senseData format x) (length (senseData format x)) (omega arith)
+  sense-past-by Conflict l = refl
+  sense-past-by Unusable l = refl
+  sense-past-by Short l = refl
 
-sense-length-by : (a : Answer) (l : List ℕ) → length (senseAfter a l) ≡ length l
-unfolding senseAfter
-sense-length-by Good l = refl
-sense-length-by (Refused n) l = length-put l 0 _
-sense-length-by Conflict l = refl
-sense-length-by Unusable l = refl
-sense-length-by Short l = refl
+  sense-length-by : (a : Answer) (l : List ℕ) → length (senseAfter format a l) ≡ length l
+  unfolding senseAfter
+  sense-length-by Good l = refl
+  sense-length-by (Refused x) l = length-put l 0 _
+  sense-length-by Conflict l = refl
+  sense-length-by Unusable l = refl
+  sense-length-by Short l = refl
 
 data-past-by : (a : Answer) (l bs : List ℕ) → drop (ifGood a (length bs) 0) (ifGood a (put l 0 bs) l) ≡ drop (ifGood a (length bs) 0) l
 unfolding ifGoodBy refuses
@@ -109,13 +110,13 @@ data-length-by Conflict l bs = refl
 data-length-by Unusable l bs = refl
 data-length-by Short l bs = refl
 
-pub sense-past : (s : Store) (c : Call) → drop 18 (step s c .seen .sense) ≡ drop 18 (c .sense)
+pub sense-past : (s : Store) (c : Call) → let n = senseWritten (s .format) (step s c .seen .answer) in drop n (step s c .seen .sense) ≡ drop n (c .sense)
 unfolding step stepBy seenOf
-sense-past s c = sense-past-by _ (c .sense)
+sense-past s c = sense-past-by (s .format) _ (c .sense)
 
 pub sense-length : (s : Store) (c : Call) → length (step s c .seen .sense) ≡ length (c .sense)
 unfolding step stepBy seenOf
-sense-length s c = sense-length-by _ (c .sense)
+sense-length s c = sense-length-by (s .format) _ (c .sense)
 
 pub data-past : (s : Store) (c : Call) → drop (step s c .seen .returned) (step s c .seen .dataIn) ≡ drop (step s c .seen .returned) (c .dataIn)
 unfolding step stepBy seenOf askedOf

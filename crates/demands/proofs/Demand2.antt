@@ -33,14 +33,14 @@ demand-2 = record {
 pub once : (s : Store) (c : Call) (o o′ : Result) → o ≡ step s c → o′ ≡ step s c → o ≡ o′
 once s c o o′ e e′ = e ∙ sym e′
 
-pub fresh-once : (capacity : ℕ) (owners : List ℕ) (o o′ : FreshResult) → o ≡ fresh capacity owners → o′ ≡ fresh capacity owners → o ≡ o′
-fresh-once capacity owners o o′ e e′ = e ∙ sym e′
+pub fresh-once : (capacity format : ℕ) (owners : List ℕ) (o o′ : FreshResult) → o ≡ fresh capacity format owners → o′ ≡ fresh capacity format owners → o ≡ o′
+fresh-once capacity format owners o o′ e e′ = e ∙ sym e′
 
 -- the promise of `execute` itself, by which nothing that it leaves could be otherwise
 pub execute-once : (s : Store) (c : Call) (r q : Outcome) (owners owners′ medium medium′ dataIn dataIn′ sense sense′ : List ℕ)
-    → left r owners medium dataIn sense ≡ step s c → left q owners′ medium′ dataIn′ sense′ ≡ step s c → r ≡ q
+    → left (s .format) r owners medium dataIn sense ≡ step s c → left (s .format) q owners′ medium′ dataIn′ sense′ ≡ step s c → r ≡ q
 execute-once s c r q owners owners′ medium medium′ dataIn dataIn′ sense sense′ e h =
-    execute-only s c r q owners owners′ medium medium′ dataIn dataIn′ sense sense′ e h .0
+    execute-only (s .format) s c r q owners owners′ medium medium′ dataIn dataIn′ sense sense′ e h .0
 
 -- ---- what holds of `step` holds of every build that is exact
 

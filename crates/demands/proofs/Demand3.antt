@@ -11,6 +11,7 @@ use Rattle.fields.proofs.Tests.{and-r, or-other, nor-l, nand-rest, not-not-intr
 use Rattle.answers.specs.declared.Answer.{Answer}
 use Rattle.answers.specs.declared.Answer.the-variants.{Good, Refused, Conflict, Unusable, Short}
 use Rattle.answers.specs.Order.{first, ifGoodBy, refuses}
+use Rattle.answers.specs.Sense.{fixed, senseAfter}
 use Rattle.answers.proofs.OrderLaws.{row-stop, not-good}
 use Rattle.pool.specs.Valid.{slotsOk}
 use Rattle.pool.proofs.Keeping.{poolOk-of, mapOk-zeros}
@@ -25,21 +26,21 @@ use Rattle.store.specs.Conflict.{conflict, shutOut}
 use Rattle.store.specs.Step.{callRows, guardRows, ownRows, answerBy, dataBy, storeBy, step, answerTo}
 use Rattle.store.proofs.ConflictLaws.{shut-moves}
 use Rattle.store.proofs.Parts.{guardAnswer, guard-refused, answers-alike}
-use Rattle.store.proofs.StoreLaws.{guard-stops, step-answer, step-seen, step-store, step-ways, leaves-both, unit-rows, unit-data, unit-by, unit-left, pool-left, store-left}
+use Rattle.store.proofs.StoreLaws.{guard-stops, step-answer, step-seen, step-store, step-ways, leaves-both, unit-rows, unit-data, unit-by, format-kept, unit-left, pool-left, store-left}
 use Rattle.demands.specs.History.{Event, call, Machine, after, afterEvent, machine, isOut, isShutOut, isSomebody, isKept, kept, add, watchedOn, heardOn, replay, watched, heard}
 use Rattle.demands.specs.Demands.{Demand3, Secrecy}
 use Rattle.demands.specs.Contents.{plain}
-use Rattle.demands.proofs.Usable.{usable-unit, usable-of, usable-stays}
+use Rattle.demands.proofs.Usable.{usable-format, usable-unit, usable-of, usable-stays}
 
 -- ---- a refusal tells nothing
 
-seen-refused : (a : Answer) (bs bs′ : List ℕ) (c : Call) → T (refuses a) → seenOf a bs c ≡ seenOf a bs′ c
+seen-refused : (format : ℕ) (a : Answer) (bs bs′ : List ℕ) (c : Call) → T (refuses a) → seenOf format a bs c ≡ seenOf format a bs′ c
 unfolding seenOf ifGoodBy refuses
-seen-refused Good bs bs′ c t = absurd t
-seen-refused (Refused s) bs bs′ c t = refl
-seen-refused Conflict bs bs′ c t = refl
-seen-refused Unusable bs bs′ c t = refl
-seen-refused Short bs bs′ c t = refl
+seen-refused format Good bs bs′ c t = absurd t
+seen-refused format (Refused x) bs bs′ c t = refl
+seen-refused format Conflict bs bs′ c t = refl
+seen-refused format Unusable bs bs′ c t = refl
+seen-refused format Short bs bs′ c t = refl
 
 -- ---- READ conflicts, so every command on the blocks does
 
@@ -87,10 +88,10 @@ module _ (c : Call) (n : T (not (isSomebody c))) where
   pub nobody-eleven : (s : Store) → step s c .seen .answer ≡ Unusable
   nobody-eleven s = step-answer s c ∙ nobody-answer s
 
-  nobody-seen : (s : Store) → step s c .seen ≡ seenOf Unusable [] c
-  unfolding refuses
-  nobody-seen s =
-      step-seen s c ∙ ap (λ (a : Answer). seenOf a (dataBy (askedOf (c .cdb)) s) c) (nobody-answer s) ∙ seen-refused Unusable _ [] c tt
+  -- 11 has no sense, in whichever format
+  nobody-seen : (s : Store) → step s c .seen ≡ seenOf fixed Unusable [] c
+  unfolding refuses seenOf senseAfter ifGoodBy
+  nobody-seen s = step-seen s c ∙ ap (λ (a : Answer). seenOf (s .format) a (dataBy (askedOf (c .cdb)) s) c) (nobody-answer s)
 
   pub nobody-learns : (s t : Store) → step s c .seen ≡ step t c .seen
   nobody-learns s t = nobody-seen s ∙ sym (nobody-seen t)
@@ -101,8 +102,8 @@ module _ (c : Call) (n : T (not (isSomebody c))) where
 
 -- ---- one call
 
--- a call whose command moves nothing, or is refused, gives the same on two stores that agree on the unit's record
-module _ (s t : Store) (c : Call) (u : T (usable s)) (v : T (usable t)) (e : s .unit ≡ t .unit)
+-- a call whose command moves nothing, or is refused, gives the same on two stores that agree on the format and the unit's record
+module _ (s t : Store) (c : Call) (u : T (usable s)) (v : T (usable t)) (f : s .format ≡ t .format) (e : s .unit ≡ t .unit)
     (h : T (movesIn (askedOf (c .cdb))) → T (isShutOut s c)) where
   own-same : guardAnswer (s .unit) c ≡ Good → first (ownRows (askedOf (c .cdb)) s c) ≡ first (ownRows (askedOf (c .cdb)) t c)
   own-same g =
@@ -111,17 +112,17 @@ module _ (s t : Store) (c : Call) (u : T (usable s)) (v : T (usable t)) (e : s .
       (λ n. ap first (unit-rows (askedOf (c .cdb)) s t c n e))
 
   same-answer : answerTo s c ≡ answerTo t c
-  same-answer = answers-alike s t c u v e own-same
+  same-answer = answers-alike s t c u v f e own-same
 
-  seen-same : seenOf (answerTo s c) (dataBy (askedOf (c .cdb)) s) c ≡ seenOf (answerTo s c) (dataBy (askedOf (c .cdb)) t) c
+  seen-same : seenOf (s .format) (answerTo s c) (dataBy (askedOf (c .cdb)) s) c ≡ seenOf (s .format) (answerTo s c) (dataBy (askedOf (c .cdb)) t) c
   seen-same =
       test (movesIn (askedOf (c .cdb)))
-      (λ m. seen-refused (answerTo s c) _ _ c (shut-refused s c m (h m)))
-      (λ n. ap (λ (bs : List ℕ). seenOf (answerTo s c) bs c) (unit-data (askedOf (c .cdb)) s t n e))
+      (λ m. seen-refused (s .format) (answerTo s c) _ _ c (shut-refused s c m (h m)))
+      (λ n. ap (λ (bs : List ℕ). seenOf (s .format) (answerTo s c) bs c) (unit-data (askedOf (c .cdb)) s t n e))
 
   pub alike-seen : step s c .seen ≡ step t c .seen
   alike-seen =
-      step-seen s c ∙ seen-same ∙ ap (λ (a : Answer). seenOf a (dataBy (askedOf (c .cdb)) t) c) same-answer ∙ sym (step-seen t c)
+      step-seen s c ∙ seen-same ∙ ap₂ (λ (x : ℕ) (a : Answer). seenOf x a (dataBy (askedOf (c .cdb)) t) c) f same-answer ∙ sym (step-seen t c)
 
   -- and leaves them so
   pub alike-unit : after step s c .unit ≡ after step t c .unit
@@ -135,15 +136,15 @@ never true t n = absurd n
 never false t n = absurd t
 
 -- a reservation-out call acts on the unit alone, by the call alone
-module _ (s t : Store) (c : Call) (u : T (usable s)) (v : T (usable t)) (e : s .unit ≡ t .unit) (o : T (isOut c)) where
+module _ (s t : Store) (c : Call) (u : T (usable s)) (v : T (usable t)) (f : s .format ≡ t .format) (e : s .unit ≡ t .unit) (o : T (isOut c)) where
   out-shut : T (movesIn (askedOf (c .cdb))) → T (isShutOut s c)
   out-shut m = never (movesIn (askedOf (c .cdb))) m (out-moves-not c o)
 
   pub out-seen : step s c .seen ≡ step t c .seen
-  out-seen = alike-seen s t c u v e out-shut
+  out-seen = alike-seen s t c u v f e out-shut
 
   pub out-unit : after step s c .unit ≡ after step t c .unit
-  out-unit = alike-unit s t c u v e out-shut
+  out-unit = alike-unit s t c u v f e out-shut
 
 -- any call but a reservation-out leaves the unit
 pub other-unit : (s : Store) (c : Call) → T (not (isOut c)) → after step s c .unit ≡ s .unit
@@ -166,13 +167,13 @@ unfolding isKept isShutOut isOut
 kept-shut s c t m =
     or-other (eqb (byte 0 (c .cdb)) 0x5F) (isShutOut s c) (moves-code (c .cdb) m) (and-r (isSomebody c) (isOut c || isShutOut s c) t)
 
--- so a kept call gives the same on two stores that agree on the unit's record, and leaves them so
-module _ (s t : Store) (c : Call) (u : T (usable s)) (v : T (usable t)) (e : s .unit ≡ t .unit) (k : T (kept s c)) where
+-- so a kept call gives the same on two stores that agree on the format and the unit's record, and leaves them so
+module _ (s t : Store) (c : Call) (u : T (usable s)) (v : T (usable t)) (f : s .format ≡ t .format) (e : s .unit ≡ t .unit) (k : T (kept s c)) where
   pub kept-seen : step s c .seen ≡ step t c .seen
-  kept-seen = alike-seen s t c u v e (kept-shut s c k)
+  kept-seen = alike-seen s t c u v f e (kept-shut s c k)
 
   pub kept-unit : after step s c .unit ≡ after step t c .unit
-  kept-unit = alike-unit s t c u v e (kept-shut s c k)
+  kept-unit = alike-unit s t c u v f e (kept-shut s c k)
 
 -- "Apart from reservation-out calls, a shut-out call changes no stored thing"
 pub shut-out-still : (s : Store) (c : Call) → T (not (isOut c)) → T (isShutOut s c) → after step s c ≡ s
@@ -191,64 +192,84 @@ out-pool s c o = step-ways (λ x. x .pool ≡ s .pool) s c (λ g. pool-left (ask
 -- ---- histories of any machine
 
 -- what is asked of one call: a kept one gives the same on two usable states that agree on what everybody may know, and leaves them so; any other
--- leaves what everybody may know; a usable state stays usable
-module _ (m : Machine) (plain : Unit → m .State) (plain-unit : (u : Unit) → m .unit (plain u) ≡ u)
-    (plain-usable : (s : m .State) → T (m .usable s) → T (m .usable (plain (m .unit s))))
+-- leaves what everybody may know; a usable state stays usable, and keeps its format
+module _ (m : Machine) (plain : ℕ → Unit → m .State) (plain-format : (f : ℕ) (u : Unit) → m .format (plain f u) ≡ f)
+    (plain-unit : (f : ℕ) (u : Unit) → m .unit (plain f u) ≡ u)
+    (plain-usable : (s : m .State) → T (m .usable s) → T (m .usable (plain (m .format s) (m .unit s))))
     (stays : (s : m .State) (e : Event) → T (m .usable s) → T (m .usable (m .next s e)))
-    (sees : (s t : m .State) (c : Call) → T (m .usable s) → T (m .usable t) → m .unit s ≡ m .unit t → T (isKept (m .unit s) c) → m .seen s c ≡ m .seen t c)
-    (leaves : (s t : m .State) (c : Call) → T (m .usable s) → T (m .usable t) → m .unit s ≡ m .unit t → T (isKept (m .unit s) c)
+    (format-stays : (s : m .State) (e : Event) → m .format (m .next s e) ≡ m .format s)
+    (sees : (s t : m .State) (c : Call) → T (m .usable s) → T (m .usable t) → m .format s ≡ m .format t → m .unit s ≡ m .unit t → T (isKept (m .unit s) c)
+    → m .seen s c ≡ m .seen t c)
+    (leaves : (s t : m .State) (c : Call) → T (m .usable s) → T (m .usable t) → m .format s ≡ m .format t → m .unit s ≡ m .unit t → T (isKept (m .unit s) c)
     → m .unit (m .next s (call c)) ≡ m .unit (m .next t (call c)))
     (others : (s : m .State) (c : Call) → T (not (isKept (m .unit s) c)) → m .unit (m .next s (call c)) ≡ m .unit s)
     (learns : (s t : m .State) (c : Call) → T (not (isSomebody c)) → m .seen s c ≡ m .seen t c)
     (changes : (s : m .State) (c : Call) → T (not (isSomebody c)) → m .next s (call c) ≡ s) where
-  heard-is-by : (s : m .State) (es : List Event) → T (m .usable s) → heardOn m s es ≡ replay m plain (m .unit s) (watchedOn m s es)
+  heard-is-by : (s : m .State) (es : List Event) → T (m .usable s) → heardOn m s es ≡ replay m plain (m .format s) (m .unit s) (watchedOn m s es)
   unfolding heardOn watchedOn replay add
   heard-is-by s [] u = refl
-  heard-is-by s (call c ∷ es) u = go (isKept (m .unit s) c) refl (heard-is-by (m .next s (call c)) es (stays s (call c) u))
+  heard-is-by s (call c ∷ es) u =
+      go (isKept (m .unit s) c) refl
+      (heard-is-by (m .next s (call c)) es (stays s (call c) u)
+      ∙ ap (λ (f : ℕ). replay m plain f (m .unit (m .next s (call c))) (watchedOn m (m .next s (call c)) es)) (format-stays s (call c)))
     where
       x : m .State
       x = m .next s (call c)
 
-      go : (b : Bool) → isKept (m .unit s) c ≡ b → heardOn m x es ≡ replay m plain (m .unit x) (watchedOn m x es)
-          → add b (m .seen s c) (heardOn m x es) ≡ replay m plain (m .unit s) (add b c (watchedOn m x es))
+      -- the state with nothing in it that is known as s is
+      y : m .State
+      y = plain (m .format s) (m .unit s)
+
+      go : (b : Bool) → isKept (m .unit s) c ≡ b → heardOn m x es ≡ replay m plain (m .format s) (m .unit x) (watchedOn m x es)
+          → add b (m .seen s c) (heardOn m x es) ≡ replay m plain (m .format s) (m .unit s) (add b c (watchedOn m x es))
       go true e ih =
-          ap₂ _∷_ (sees s (plain (m .unit s)) c u (plain-usable s u) (sym (plain-unit (m .unit s))) (true→T _ e))
-          (ih ∙ ap (λ (v : Unit). replay m plain v (watchedOn m x es))
-          (leaves s (plain (m .unit s)) c u (plain-usable s u) (sym (plain-unit (m .unit s))) (true→T _ e)))
-      go false e ih = ih ∙ ap (λ (v : Unit). replay m plain v (watchedOn m x es)) (others s c (false→T _ e))
+          ap₂ _∷_ (sees s y c u (plain-usable s u) (sym (plain-format (m .format s) (m .unit s))) (sym (plain-unit (m .format s) (m .unit s))) (true→T _ e))
+          (ih ∙ ap (λ (v : Unit). replay m plain (m .format s) v (watchedOn m x es))
+          (leaves s y c u (plain-usable s u) (sym (plain-format (m .format s) (m .unit s))) (sym (plain-unit (m .format s) (m .unit s))) (true→T _ e)))
+      go false e ih = ih ∙ ap (λ (v : Unit). replay m plain (m .format s) v (watchedOn m x es)) (others s c (false→T _ e))
 
   pub secrecy-by : Secrecy m plain
   secrecy-by = record {
     heard-is = heard-is-by;
-    secret = λ s t es ds u v e w. heard-is-by s es u ∙ ap₂ (replay m plain) e w ∙ sym (heard-is-by t ds v);
+    secret = λ s t es ds u v f e w.
+        heard-is-by s es u ∙ ap₂ (replay m plain (m .format s)) e w ∙ ap (λ (x : ℕ). replay m plain x (m .unit t) (watchedOn m t ds)) f
+        ∙ sym (heard-is-by t ds v);
     nobody-learns = learns;
     nobody-changes = changes;
   }
 
 -- ---- histories of `step`
 
-pub plain-usable : (s : Store) → T (usable s) → T (usable (plain (s .unit)))
+pub plain-usable : (s : Store) → T (usable s) → T (usable (plain (s .format) (s .unit)))
 unfolding plain slotsOk zeros
-plain-usable s u = usable-of (plain (s .unit)) (usable-unit s u) (poolOk-of (s .unit .capacity) _ tt refl (mapOk-zeros (s .unit .capacity) 1))
+plain-usable s u = usable-of (plain (s .format) (s .unit)) (usable-format s u) (usable-unit s u) (poolOk-of (s .unit .capacity) _ tt refl (mapOk-zeros (s .unit .capacity) 1))
 
-pub plain-unit : (u : Unit) → plain u .unit ≡ u
+pub plain-format : (f : ℕ) (u : Unit) → plain f u .format ≡ f
 unfolding plain
-plain-unit u = refl
+plain-format f u = refl
+
+pub plain-unit : (f : ℕ) (u : Unit) → plain f u .unit ≡ u
+unfolding plain
+plain-unit f u = refl
 
 pub event-usable : (s : Store) (e : Event) → T (usable s) → T (usable (afterEvent step s e))
 unfolding afterEvent
 event-usable s (call c) u = usable-stays s c u
 
+event-format : (s : Store) (e : Event) → afterEvent step s e .format ≡ s .format
+unfolding afterEvent after
+event-format s (call c) = format-kept s c
+
 pub secrecy : Secrecy (machine step) plain
 unfolding afterEvent
 secrecy =
-    secrecy-by (machine step) plain plain-unit plain-usable event-usable
+    secrecy-by (machine step) plain plain-format plain-unit plain-usable event-usable event-format
     kept-seen kept-unit unkept-unit (λ s t c n. nobody-learns c n s t) (λ s c n. nobody-still c n s)
 
-pub secret : (s t : Store) (cs ds : List Call) → T (usable s) → T (usable t) → s .unit ≡ t .unit
+pub secret : (s t : Store) (cs ds : List Call) → T (usable s) → T (usable t) → s .format ≡ t .format → s .unit ≡ t .unit
     → watched step s cs ≡ watched step t ds → heard step s cs ≡ heard step t ds
 unfolding watched heard
-secret s t cs ds u v e w = secrecy .secret s t (map call cs) (map call ds) u v e w
+secret s t cs ds u v f e w = secrecy .secret s t (map call cs) (map call ds) u v f e w
 
 pub demand-3 : Demand3 step
 demand-3 = record { secret = secret; still = shut-out-still; out-pool = out-pool }

@@ -100,7 +100,7 @@ later-none s c =
 
 -- ---- before the fields
 
-pub heard-call : (s : Store) (c : Call) → Heard s c → 1 ≤ length (c .cdb) → callAnswer c ≡ Good
+pub heard-call : (s : Store) (c : Call) → Heard s c → 1 ≤ length (c .cdb) → callAnswer (s .format) c ≡ Good
 unfolding callRows
 heard-call s c h l =
     row-pass Unusable _ _ (le-ltb _ _ (h .nexus)) ∙ row-pass Unusable _ _ (ne-eqb (length (c .cdb)) 0 (omega arith))

@@ -11,6 +11,7 @@ use Rattle.fields.proofs.BytesLaws.{length-zeros}
 use Rattle.answers.specs.declared.Answer.{Answer}
 use Rattle.answers.specs.declared.Answer.the-variants.{Good, Unusable}
 use Rattle.answers.specs.Order.{_if_, first, ifGood, firstOf, ifGoodBy, refuses}
+use Rattle.answers.specs.Sense.{formatOk}
 use Rattle.pool.specs.Valid.{capacityOk, slotsOk}
 use Rattle.pool.proofs.Keeping.{poolOk-of, mapOk-zeros}
 use Rattle.rights.specs.Places.{used, registered}
@@ -24,34 +25,36 @@ use Rattle.demands.proofs.Usable.{unit-of, usable-of}
 
 -- ---- making one
 
-module _ (capacity : ℕ) (owners : List ℕ) where
-  bounds : (a b : Bool) → T (a && b) → first (Unusable if not a ∷ Unusable if not b ∷ []) ≡ Good
+module _ (capacity format : ℕ) (owners : List ℕ) where
+  bounds : (a b c : Bool) → T (a && (b && c)) → first (Unusable if not a ∷ Unusable if not b ∷ Unusable if not c ∷ []) ≡ Good
   unfolding firstOf
-  bounds true true t = refl
-  bounds true false t = absurd t
-  bounds false b t = absurd t
+  bounds true true true t = refl
+  bounds true true false t = absurd t
+  bounds true false c t = absurd t
+  bounds false b c t = absurd t
 
-  no-bounds : (a b : Bool) → T (not (a && b)) → first (Unusable if not a ∷ Unusable if not b ∷ []) ≡ Unusable
+  no-bounds : (a b c : Bool) → T (not (a && (b && c))) → first (Unusable if not a ∷ Unusable if not b ∷ Unusable if not c ∷ []) ≡ Unusable
   unfolding firstOf
-  no-bounds true true t = absurd t
-  no-bounds true false t = refl
-  no-bounds false b t = refl
+  no-bounds true true true t = absurd t
+  no-bounds true true false t = refl
+  no-bounds true false c t = refl
+  no-bounds false b c t = refl
 
   -- "no mapping, registration or reservation and generation 0"
-  pub fresh-made : T (capacityOk capacity && slotsOk (length owners))
-      → fresh capacity owners ≡ record { answer = Good; unit = freshUnit capacity; owners = zeros (length owners) }
+  pub fresh-made : T (capacityOk capacity && (formatOk format && slotsOk (length owners)))
+      → fresh capacity format owners ≡ record { answer = Good; unit = freshUnit capacity; owners = zeros (length owners) }
   unfolding fresh freshAnswer ifGoodBy refuses
   fresh-made t =
       ap (λ (a : Answer). record { answer = a; unit = ifGood a (freshUnit capacity) (freshUnit 0); owners = ifGood a (zeros (length owners)) owners })
-      (bounds (capacityOk capacity) (slotsOk (length owners)) t)
+      (bounds (capacityOk capacity) (formatOk format) (slotsOk (length owners)) t)
 
-  -- "bad bounds give 11 and leave all"
-  pub fresh-refused : T (not (capacityOk capacity && slotsOk (length owners)))
-      → fresh capacity owners ≡ record { answer = Unusable; unit = freshUnit 0; owners = owners }
+  -- "bad bounds give 11 and leave all", and so does a format that is none
+  pub fresh-refused : T (not (capacityOk capacity && (formatOk format && slotsOk (length owners))))
+      → fresh capacity format owners ≡ record { answer = Unusable; unit = freshUnit 0; owners = owners }
   unfolding fresh freshAnswer ifGoodBy refuses
   fresh-refused t =
       ap (λ (a : Answer). record { answer = a; unit = ifGood a (freshUnit capacity) (freshUnit 0); owners = ifGood a (zeros (length owners)) owners })
-      (no-bounds (capacityOk capacity) (slotsOk (length owners)) t)
+      (no-bounds (capacityOk capacity) (formatOk format) (slotsOk (length owners)) t)
 
 -- ---- calls may begin on it
 
@@ -59,11 +62,11 @@ no-rights-ok : T (rightsOk noRights)
 unfolding rightsOk noRights placesOk placesApart placeOk used registered stands
 no-rights-ok = tt
 
-pub fresh-usable : (capacity slots : ℕ) (medium : List ℕ) → T (capacityOk capacity) → T (slotsOk slots) → length medium ≡ 512 * slots
-    → T (usable (freshStore capacity slots medium))
+pub fresh-usable : (capacity format slots : ℕ) (medium : List ℕ) → T (capacityOk capacity) → T (formatOk format) → T (slotsOk slots)
+    → length medium ≡ 512 * slots → T (usable (freshStore capacity format slots medium))
 unfolding freshStore freshUnit
-fresh-usable capacity slots medium b s e =
-    usable-of (freshStore capacity slots medium) (unit-of (freshUnit capacity) b no-rights-ok)
+fresh-usable capacity format slots medium b f s e =
+    usable-of (freshStore capacity format slots medium) f (unit-of (freshUnit capacity) b no-rights-ok)
     (poolOk-of capacity _ (rw length-zeros s) (rw length-zeros e) (mapOk-zeros capacity slots))
 
 -- ---- on no other

@@ -10,6 +10,7 @@ use lib.ListN.{length}
 use Rattle.fields.proofs.Tests.{by-test, true→T, false→T, T-true}
 use Rattle.answers.specs.declared.Answer.the-variants.{Good}
 use Rattle.answers.proofs.OrderLaws.{if-good, if-refused, good-cases}
+use Rattle.answers.specs.Sense.{formatOk}
 use Rattle.pool.specs.Pool.{Pool, readBlock, readBlocks}
 use Rattle.pool.specs.Valid.{capacityOk, slotsOk}
 use Rattle.pool.proofs.Writing.{in-or-out}
@@ -27,10 +28,10 @@ use Rattle.demands.specs.History.{Event, call, after, afterEvent, machin
 use Rattle.demands.specs.Contents.{Asks, addressIn, IsGood, inRange, plain}
 use Rattle.demands.specs.WriteSame.{isNdob, sent, covers}
 use Rattle.demands.specs.FromFresh.{Answered, answered, outs, blockOf, readsAfter, readsBy, reads, recalledFrom, recalled, recalledBlocks, FromFresh}
-use Rattle.demands.proofs.Usable.{usable-stays}
+use Rattle.demands.proofs.Usable.{usable-stays, format-after}
 use Rattle.demands.proofs.Fresh.{fresh-usable}
-use Rattle.demands.proofs.Demand3.{other-unit, out-unit, event-usable, plain-usable, plain-unit}
-use Rattle.demands.proofs.Moving.{done-after, refused-after}
+use Rattle.demands.proofs.Demand3.{other-unit, out-unit, event-usable, plain-usable, plain-unit, plain-format}
+use Rattle.demands.proofs.Moving.{done-after, refused-after, good-any}
 use Rattle.demands.proofs.Transfers.{read-seen, write-contents, write-keeps, fresh-contents}
 use Rattle.demands.proofs.Unmaps.{in-range, range-in, unmap-contents}
 use Rattle.demands.proofs.WriteSame.{same-reads}
@@ -94,22 +95,22 @@ history-reads s (call c ∷ es) b =
     history-reads (after step s c) es b
     ∙ ap (λ (old : List ℕ). recalledFrom old (answered (after step s c) es) b) (step-reads s c b)
 
--- two stores that agree on the unit's record, of which one has the reservation-out calls alone
-pub unit-by-outs : (s t : Store) (es : List Event) → T (usable s) → T (usable t) → s .unit ≡ t .unit
+-- two stores that agree on the format and the unit's record, of which one has the reservation-out calls alone
+pub unit-by-outs : (s t : Store) (es : List Event) → T (usable s) → T (usable t) → s .format ≡ t .format → s .unit ≡ t .unit
     → afterAll (machine step) s es .unit ≡ afterAll (machine step) t (outs es) .unit
 unfolding afterAll afterEvent outs add
-unit-by-outs s t [] u v e = e
-unit-by-outs s t (call c ∷ es) u v e =
+unit-by-outs s t [] u v f e = e
+unit-by-outs s t (call c ∷ es) u v f e =
     go (isOut c) refl
-    (λ w d. unit-by-outs (after step s c) (after step t c) es (usable-stays s c u) w d)
-    (λ d. unit-by-outs (after step s c) t es (usable-stays s c u) v d)
+    (λ w d. unit-by-outs (after step s c) (after step t c) es (usable-stays s c u) w (format-after s c ∙ f ∙ sym (format-after t c)) d)
+    (λ d. unit-by-outs (after step s c) t es (usable-stays s c u) v (format-after s c ∙ f) d)
   where
     go : (b : Bool) → isOut c ≡ b
         → (T (usable (after step t c)) → after step s c .unit ≡ after step t c .unit
         → afterAll (machine step) (after step s c) es .unit ≡ afterAll (machine step) (after step t c) (outs es) .unit)
         → (after step s c .unit ≡ t .unit → afterAll (machine step) (after step s c) es .unit ≡ afterAll (machine step) t (outs es) .unit)
         → afterAll (machine step) (after step s c) es .unit ≡ afterAll (machine step) t (add b (call c) (outs es)) .unit
-    go true h x y = x (usable-stays t c v) (out-unit s t c u v e (true→T _ h))
+    go true h x y = x (usable-stays t c v) (out-unit s t c u v f e (true→T _ h))
     go false h x y = y (other-unit s c (false→T _ h) ∙ e)
 
 -- ---- from a fresh store
@@ -119,23 +120,24 @@ unfolding readBlocks recalledBlocks
 blocks-recalled p xs each a zero = refl
 blocks-recalled p xs each a (suc n) = ap₂ (λ (x y : List ℕ). x ++ y) (each a) (blocks-recalled p xs each (suc a) n)
 
-module _ (capacity slots : ℕ) (medium : List ℕ) where
+module _ (capacity format slots : ℕ) (medium : List ℕ) where
   pub fresh-blocks : (es : List Event) (b : ℕ)
-      → readBlock (afterAll (machine step) (freshStore capacity slots medium) es .pool) b ≡ recalled (answered (freshStore capacity slots medium) es) b
+      → readBlock (afterAll (machine step) (freshStore capacity format slots medium) es .pool) b ≡ recalled (answered (freshStore capacity format slots medium) es) b
   unfolding recalled
   fresh-blocks es b =
-      history-reads (freshStore capacity slots medium) es b
-      ∙ ap (λ (old : List ℕ). recalledFrom old (answered (freshStore capacity slots medium) es) b) (fresh-contents capacity slots medium b)
+      history-reads (freshStore capacity format slots medium) es b
+      ∙ ap (λ (old : List ℕ). recalledFrom old (answered (freshStore capacity format slots medium) es) b) (fresh-contents capacity format slots medium b)
 
-  pub from-fresh : T (capacityOk capacity) → T (slotsOk slots) → length medium ≡ 512 * slots → FromFresh (freshStore capacity slots medium)
-  from-fresh x y e =
-      let s = freshStore capacity slots medium in
-      let u = fresh-usable capacity slots medium x y e in
+  pub from-fresh : T (capacityOk capacity) → T (formatOk format) → T (slotsOk slots) → length medium ≡ 512 * slots → FromFresh (freshStore capacity format slots medium)
+  from-fresh x f y e =
+      let s = freshStore capacity format slots medium in
+      let u = fresh-usable capacity format slots medium x f y e in
       record {
         usable-ever = λ es. history-usable s es u;
         blocks = fresh-blocks;
         read-back = λ es r a g. read-seen (afterAll (machine step) s es) r a g
-            ∙ ap (λ (bs : List ℕ). seenOf Good bs r)
+            ∙ good-any (afterAll (machine step) s es .format) (s .format) _ r
+            ∙ ap (λ (bs : List ℕ). seenOf (s .format) Good bs r)
             (blocks-recalled (afterAll (machine step) s es .pool) (answered s es) (fresh-blocks es) (addressIn (a .request)) (countIn (a .request)));
-        rights-by-outs = λ es. unit-by-outs s (plain (s .unit)) es u (plain-usable s u) (sym (plain-unit (s .unit)));
+        rights-by-outs = λ es. unit-by-outs s (plain (s .format) (s .unit)) es u (plain-usable s u) (sym (plain-format (s .format) (s .unit))) (sym (plain-unit (s .format) (s .unit)));
       }

@@ -3,6 +3,9 @@ pub mod Usable
 pub mod Fresh
 pub mod Demand1
 pub mod Demand3
+pub mod Answering
+pub mod SenseRead
+pub mod SenseTold
 pub mod AtC
 pub mod CasesPass
 pub mod Comparing
@@ -34,9 +37,9 @@ pub mod FieldLimits
 pub mod BlockLimits
 pub mod Limits
 pub mod WrongLimits
-pub mod Answering
 pub mod Named
 pub mod Places
 pub mod Pointed
 pub mod WrongPointers
+pub mod Sensed
 pub mod Proved

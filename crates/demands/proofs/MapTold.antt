@@ -55,13 +55,13 @@ as-read : (r : Rights) (n : ℕ) → conflict r n (Moves Status) ≡ shutOut r n
 unfolding shutOut ruled stops
 as-read r n = table-rule r n (Moves Status) ∙ sym (table-rule r n (Moves Read))
 
-status-shut-out : (s : Store) (c : Call) → Asks Status c → T (usable s) → byItself c ≡ Good → step s c .seen .answer ≡ Conflict ↔ T (isShutOut s c)
+status-shut-out : (s : Store) (c : Call) → Asks Status c → T (usable s) → byItself (s .format) c ≡ Good → step s c .seen .answer ≡ Conflict ↔ T (isShutOut s c)
 unfolding isShutOut
 status-shut-out s c a u g =
     subst (λ (b : Bool). step s c .seen .answer ≡ Conflict ↔ T b) (as-read (s .unit .rights) (c .nexus)) (move-decided Status s c a u g)
 
 status-past-end : (s : Store) (c : Call) (a : Asks Status c) → Reaches s a → s .unit .capacity ≤ addressIn (a .request)
-    → step s c .seen .answer ≡ outOfRange
+    → step s c .seen .answer ≡ outOfRange (addressIn (a .request))
 unfolding moveRows statusRows
 status-past-end s c a r h = rows-answer Status s c a r ∙ row-stop (outOfRange _) _ _ (le-leb _ _ h)
 

@@ -8,6 +8,7 @@ use Rattle.answers.specs.declared.Answer.{Answer}
 use Rattle.answers.specs.declared.Answer.the-variants.{Good, Conflict}
 use Rattle.answers.specs.Order.{_if_, first, refuses}
 use Rattle.answers.proofs.OrderLaws.{good-cases, not-good}
+use Rattle.answers.specs.Sense.{senseAfter}
 use Rattle.rights.specs.declared.Rights.{Rights}
 use Rattle.forms.specs.declared.Move.{Move}
 use Rattle.forms.specs.declared.Move.the-variants.{Read, Write, WriteSame, Unmap, Status}
@@ -62,12 +63,18 @@ module _ (m : Move) (c : Call) (a : Asks m c) where
   unfolding storeBy commandStore
   asks-store s = rw (a .is, a .command)
 
+-- ---- GOOD has no sense, so that the format makes no difference to what is seen
+
+pub good-any : (f g : ℕ) (bs : List ℕ) (c : Call) → seenOf f Good bs c ≡ seenOf g Good bs c
+unfolding seenOf senseAfter
+good-any f g bs c = refl
+
 -- ---- a call on the blocks that is GOOD
 
 module _ (m : Move) (s : Store) (c : Call) (a : Asks m c) (e : IsGood s c) where
   -- what is seen of it
-  pub good-seen : step s c .seen ≡ seenOf Good (fetched m (a .request) (s .unit .capacity) (s .pool)) c
-  good-seen = step-seen s c ∙ ap₂ (λ (x : Answer) (bs : List ℕ). seenOf x bs c) (sym (step-answer s c) ∙ e) (asks-data m c a s)
+  pub good-seen : step s c .seen ≡ seenOf (s .format) Good (fetched m (a .request) (s .unit .capacity) (s .pool)) c
+  good-seen = step-seen s c ∙ ap₂ (λ (x : Answer) (bs : List ℕ). seenOf (s .format) x bs c) (sym (step-answer s c) ∙ e) (asks-data m c a s)
 
   -- what it leaves
   pub good-after : after step s c ≡ withPool s (moved m (a .request) (s .pool) c)

@@ -15,7 +15,7 @@ use Rattle.answers.specs.declared.Refusal.{Refusal}
 use Rattle.answers.specs.declared.Refusal.the-variants.{NotListed, InvalidField, OutOfRange, ListLength, ListField, NoPlace, OtherType, NoRoom}
 use Rattle.answers.specs.declared.Answer.{Answer}
 use Rattle.answers.specs.declared.Answer.the-variants.{Good, Refused, Unusable, Short}
-use Rattle.answers.specs.Answers.{plain, codesOf, numberOf, invalidField, listField, listLength}
+use Rattle.answers.specs.Answers.{codesOf, numberOf, invalidField, listField, listLength}
 use Rattle.answers.specs.Order.{Row, _if_, first, refuses, firstOf, refusingBy}
 use Rattle.answers.proofs.OrderLaws.{row-fails, first-obeys}
 use Rattle.pool.specs.Pool.{Pool}
@@ -78,23 +78,23 @@ module _ (cdb : List ℕ) where
       (field-each _ (entryOf cdb) cdb (λ b h. (b, refl)))
 
 -- a refusal that is neither 2 nor 5 names none
-refusal-unplaced : (r : Refusal) → T (not (says 2 (Refused (plain r)))) → T (not (says 5 (Refused (plain r)))) → placeOf r ≡ unplaced
+refusal-unplaced : (r : Refusal) → T (not (says 2 (Refused r))) → T (not (says 5 (Refused r))) → placeOf r ≡ unplaced
 unfolding says numberOf codesOf placeOf
 refusal-unplaced NotListed t u = refl
 refusal-unplaced (InvalidField at top n) t u = absurd t
-refusal-unplaced OutOfRange t u = refl
+refusal-unplaced (OutOfRange address) t u = refl
 refusal-unplaced ListLength t u = refl
 refusal-unplaced (ListField at top n) t u = absurd u
 refusal-unplaced NoPlace t u = refl
 refusal-unplaced OtherType t u = refl
-refusal-unplaced NoRoom t u = refl
+refusal-unplaced (NoRoom address) t u = refl
 
 module _ (x : Asked) (s : Store) (c : Call) where
   pub own-named : T (says 5 (first (ownRows x s c))) → (b : Bits) × (first (ownRows x s c) ≡ listField b)
   unfolding says numberOf codesOf
   own-named =
       first-is (λ a. T (says 5 a) → (b : Bits) × (a ≡ listField b)) (ownRows x s c) (λ h. absurd h)
-      (own-each _ (record { short = λ h. absurd h; conflict = λ h. absurd h; nowhere = λ r t u h. absurd (T-not (says 5 (Refused (plain r))) u h); named = λ b t h. (b, refl) }) x s c)
+      (own-each _ (record { short = λ h. absurd h; conflict = λ h. absurd h; nowhere = λ r t u h. absurd (T-not (says 5 (Refused r)) u h); named = λ b t h. (b, refl) }) x s c)
 
   pub own-fits : T (placeFits namedBytes (placeIn (first (ownRows x s c))))
   unfolding placeFits placeIn placeOf
@@ -107,7 +107,7 @@ pub nowhere-else : (s : Store) (c : Call) → T (not (says 2 (answerTo s c))) �
 unfolding says numberOf codesOf placeIn placeOf
 nowhere-else s c =
     rw (parts s c)
-    (next-is Q (callAnswer c) _ (first-is Q _ (λ t u. refl) (call-each Q c (λ t u. refl)))
+    (next-is Q (callAnswer (s .format) c) _ (first-is Q _ (λ t u. refl) (call-each Q (s .format) c (λ t u. refl)))
     (next-is Q (storeAnswer s) _ (first-is Q _ (λ t u. refl) (store-each Q s (λ t u. refl)))
     (next-is Q (codeAnswer c) _ (first-is Q _ (λ t u. refl) (code-each Q (entryOf (c .cdb)) (λ t u. refl)))
     (next-is Q (lengthAnswer c) _ (first-is Q _ (λ t u. refl) (length-each Q (entryOf (c .cdb)) (c .cdb) (λ t u. refl)))
@@ -120,45 +120,46 @@ nowhere-else s c =
 
 -- ---- where a field of a list is named, the list is as long as its first bytes
 
--- a row that does not answer 5 was passed
-row-past : (a : Answer) (x : Bool) (rows : List Row) → T (not (says 5 a)) → T (says 5 (first (a if x ∷ rows))) → (x ≡ false) × T (says 5 (first rows))
-unfolding firstOf
-row-past a true rows n t = absurd (T-not (says 5 a) n t)
-row-past a false rows n t = (refl, t)
+module _ (number : ℕ) where
+  -- a row that does not answer so was passed
+  pub row-past : (a : Answer) (x : Bool) (rows : List Row) → T (not (says number a)) → T (says number (first (a if x ∷ rows)))
+      → (x ≡ false) × T (says number (first rows))
+  unfolding firstOf
+  row-past a true rows n t = absurd (T-not (says number a) n t)
+  row-past a false rows n t = (refl, t)
 
--- a row behind which nothing answers 5 has answered
-row-held : (a : Answer) (x : Bool) (rows : List Row) → T (not (says 5 (first rows))) → T (says 5 (first (a if x ∷ rows))) → x ≡ true
-unfolding firstOf
-row-held a true rows n t = refl
-row-held a false rows n t = absurd (T-not (says 5 (first rows)) n t)
+  -- a row behind which nothing answers so has answered
+  pub row-held : (a : Answer) (x : Bool) (rows : List Row) → T (not (says number (first rows))) → T (says number (first (a if x ∷ rows))) → x ≡ true
+  unfolding firstOf
+  row-held a true rows n t = refl
+  row-held a false rows n t = absurd (T-not (says number (first rows)) n t)
 
--- rows that do not answer 5
-never : {X : Type 0} (rows : List Row) → Each (λ a. T (not (says 5 a))) rows → T (says 5 (first rows)) → X
-unfolding says numberOf
-never rows e h = absurd (T-not (says 5 (first rows)) (none (says 5) rows tt e) h)
+  -- rows that do not answer so
+  pub never : {X : Type 0} (rows : List Row) → T (not (says number Good)) → Each (λ a. T (not (says number a))) rows → T (says number (first rows)) → X
+  never rows g e h = absurd (T-not (says number (first rows)) (none (says number) rows g e) h)
 
 alter-long : (a : Action) (q : Request) (r : Rights) (n : ℕ) (dataOut : List ℕ) → T (says 5 (first (alterRows a q r n dataOut))) → namedBytes ≤ length dataOut
 unfolding alterRows says numberOf codesOf
-alter-long a q r n dataOut h = ltb-false _ _ (row-past Short _ _ tt (row-past listLength _ _ tt h .1) .0)
+alter-long a q r n dataOut h = ltb-false _ _ (row-past 5 Short _ _ tt (row-past 5 listLength _ _ tt h .1) .0)
 
 unmap-long : (capacity n : ℕ) (dataOut : List ℕ) → T (says 5 (first (unmapRows capacity n dataOut))) → namedBytes ≤ length dataOut
 unfolding unmapRows considered says numberOf codesOf Each
 unmap-long capacity n dataOut h =
-    let sized = row-past Short (ltb (length dataOut) n) _ tt (row-past listLength _ _ tt h .1) in
-    let more = row-held (listField dataLengthBits) (ltb mostDescriptors (considered n dataOut)) _ (none (says 5) _ tt (tt, tt)) (sized .1) in
+    let sized = row-past 5 Short (ltb (length dataOut) n) _ tt (row-past 5 listLength _ _ tt h .1) in
+    let more = row-held 5 (listField dataLengthBits) (ltb mostDescriptors (considered n dataOut)) _ (none (says 5) _ tt (tt, tt)) (sized .1) in
     omega (arith, ltb-false (length dataOut) n (sized .0), ltb-true mostDescriptors (considered n dataOut) more, min-le-right (numberIn dataLengthBits dataOut) (n - 8))
 
 move-long : (m : Move) (q : Request) (capacity : ℕ) (p : Pool) (c : Call) → T (says 5 (first (moveRows m q capacity p c))) → namedBytes ≤ length (c .dataOut)
 unfolding moveRows readRows writeRows sameRows statusRows says numberOf codesOf Each
-move-long Read q capacity p c h = never (moveRows Read q capacity p c) (tt, (tt, tt)) h
-move-long Write q capacity p c h = never (moveRows Write q capacity p c) (tt, (tt, (tt, tt))) h
-move-long WriteSame q capacity p c h = never (moveRows WriteSame q capacity p c) (tt, (tt, (tt, tt))) h
+move-long Read q capacity p c h = never 5 (moveRows Read q capacity p c) tt (tt, (tt, tt)) h
+move-long Write q capacity p c h = never 5 (moveRows Write q capacity p c) tt (tt, (tt, (tt, tt))) h
+move-long WriteSame q capacity p c h = never 5 (moveRows WriteSame q capacity p c) tt (tt, (tt, (tt, tt))) h
 move-long Unmap q capacity p c h = unmap-long capacity (listLengthIn q) (c .dataOut) h
-move-long Status q capacity p c h = never (moveRows Status q capacity p c) (tt, (tt, tt)) h
+move-long Status q capacity p c h = never 5 (moveRows Status q capacity p c) tt (tt, (tt, tt)) h
 
 command-long : (k : Command) (q : Request) (s : Store) (c : Call) → T (says 5 (first (commandRows k q s c))) → namedBytes ≤ length (c .dataOut)
 unfolding commandRows tellRows says numberOf Each
-command-long (Tells t) q s c h = never (tellRows t q (s .unit) (c .dataIn)) (tt, tt) h
+command-long (Tells t) q s c h = never 5 (tellRows t q (s .unit) (c .dataIn)) tt (tt, tt) h
 command-long (Moves m) q s c h = move-long m q (s .unit .capacity) (s .pool) c h
 command-long (Alters a) q s c h = alter-long a q (s .unit .rights) (c .nexus) (c .dataOut) h
 

@@ -80,7 +80,7 @@ module _ (l m : List ℕ) (hl : AreBytes l) (hm : AreBytes m) where
   unfolding Placed checkRows wrongIn Alike
   alike-checks [] t = tt
   alike-checks (k ∷ ks) t =
-      (refl, λ p e h. ap (k .wrong) (agree-number (k .bits) l m (t .0) hl hm (cdb-same (k .bits) p l m e h)), alike-checks ks (t .1))
+      (refl, refl, λ p e h. ap (k .wrong) (agree-number (k .bits) l m (t .0) hl hm (cdb-same (k .bits) p l m e h)), alike-checks ks (t .1))
 
 bytes-place : (f : Field) → T (isPlace (bytesOf f))
 unfolding bytesOf isPlace
@@ -144,24 +144,29 @@ module _ (l m : List ℕ) where
   -- an answer that names no field of a list
   other-row : (a : Answer) (x y : Bool) (xs ys : List Row) → T (not (eqb (numberOf a) 5)) → Pair xs ys → Pair (a if x ∷ xs) (a if y ∷ ys)
   unfolding Alike numberOf codesOf
-  other-row a x y xs ys t h = (refl, λ p e. absurd (subst (λ (r : Answer). T (not (eqb (numberOf r) 5))) e t), h)
+  other-row a x y xs ys t h = (refl, refl, λ p e. absurd (subst (λ (r : Answer). T (not (eqb (numberOf r) 5))) e t), h)
+
+  -- the address of an answer 3 may depend on the list
+  range-row : (i j : ℕ) (x y : Bool) (xs ys : List Row) → Pair xs ys → Pair (outOfRange i if x ∷ xs) (outOfRange j if y ∷ ys)
+  unfolding Alike numberOf codesOf placeIn placeOf
+  range-row i j x y xs ys h = (refl, refl, λ p e. absurd (subst (λ (r : Answer). T (not (eqb (numberOf r) 5))) e tt), h)
 
   field-row : (b : Bits) (x y : Bool) (xs ys : List Row) → (AgreeIn b l m → x ≡ y) → Pair xs ys → Pair (listField b if x ∷ xs) (listField b if y ∷ ys)
   unfolding Alike
-  field-row b x y xs ys f h = (refl, λ p e g. f (list-same b p l m e g), h)
+  field-row b x y xs ys f h = (refl, refl, λ p e g. f (list-same b p l m e g), h)
 
   -- rows that do not see the list
   same-rows : (xs : List Row) → Pair xs xs
   unfolding Alike
   same-rows [] = tt
-  same-rows ((a if x) ∷ xs) = (refl, λ p e g. refl, same-rows xs)
+  same-rows ((a if x) ∷ xs) = (refl, refl, λ p e g. refl, same-rows xs)
 
   pairs-append : (xs ys us vs : List Row) → Pair xs ys → Pair us vs → Pair (xs ++ us) (ys ++ vs)
   unfolding Alike
   pairs-append [] [] us vs h k = k
   pairs-append [] (y ∷ ys) us vs h k = absurd h
   pairs-append (x ∷ xs) [] us vs h k = absurd h
-  pairs-append ((a if x) ∷ xs) ((b if y) ∷ ys) us vs h k = (h .0, h .1, pairs-append xs ys us vs (h .2) k)
+  pairs-append ((a if x) ∷ xs) ((b if y) ∷ ys) us vs h k = (h .0, h .1, h .2, pairs-append xs ys us vs (h .3) k)
 
   -- ---- RESERVE OUT
 
@@ -213,7 +218,7 @@ module _ (l m : List ℕ) where
     unmap-pair capacity n =
         other-row listLength _ _ _ _ tt
         (other-row Short _ _ _ _ tt
-        (field-row dataLengthBits _ _ _ _ (λ h. rw (agree-number dataLengthBits l m tt hl hm h)) (other-row (outOfRange _) _ _ _ _ tt pair-end)))
+        (field-row dataLengthBits _ _ _ _ (λ h. rw (agree-number dataLengthBits l m tt hl hm h)) (range-row _ _ _ _ _ _ pair-end)))
 
 module _ (c : Call) (m : List ℕ) (hl : AreBytes (c .dataOut)) (hm : AreBytes m) where
   move-pair : (k : Move) (q : Request) (capacity : ℕ) (p : Pool)

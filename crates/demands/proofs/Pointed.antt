@@ -17,10 +17,10 @@ use Rattle.fields.proofs.BytesLaws.{put-front}
 use Rattle.fields.proofs.FieldLaws.{field-drop, field-bytes}
 use Rattle.answers.specs.declared.Refusal.{Refusal}
 use Rattle.answers.specs.declared.Refusal.the-variants.{NotListed, InvalidField, OutOfRange, ListLength, ListField, NoPlace, OtherType, NoRoom}
-use Rattle.answers.specs.declared.Sense.{Sense}
 use Rattle.answers.specs.declared.Answer.{Answer}
 use Rattle.answers.specs.declared.Answer.the-variants.{Good, Refused, Conflict, Unusable, Short}
-use Rattle.answers.specs.Answers.{codesOf, numberOf, notListed, pointerMark, pointerByte, fixedFormat, senseAfter, invalidField, listField}
+use Rattle.answers.specs.Answers.{codesOf, numberOf, notListed, invalidField, listField}
+use Rattle.answers.specs.Sense.{detailOf}
 use Rattle.answers.specs.Order.{Row, _if_, first, next, refuses, refusing, firstOf, refusingBy}
 use Rattle.answers.proofs.OrderLaws.{row-pass, row-end, next-after, row-fails, rows-after, next-refuses, next-refused, not-good}
 use Rattle.forms.specs.declared.Code.{Code}
@@ -36,38 +36,14 @@ use Rattle.store.proofs.StoreLaws.{step-answer, step-seen}
 use Rattle.commands.proofs.StageLaws.{long-within}
 use Rattle.demands.specs.Contents.{byItself}
 use Rattle.demands.specs.Limits.{Heard}
-use Rattle.demands.specs.Pointed.{sksv, commandData, bpv, bitPointer, fieldPointer, PointsAt, withCdb, withList, AreBytes, LiesIn, Pointed, Alike, Place, unplaced, placed, placeOf, placeIn}
+use Rattle.demands.specs.Pointed.{PointsAt, withCdb, withList, AreBytes, LiesIn, Pointed, Alike, Place, unplaced, placed, placeOf, placeIn}
+use Rattle.demands.specs.SenseRead.{specific, sksv, commandData, bpv, bitPointer, fieldPointer}
+use Rattle.demands.proofs.SenseRead.{markOf, atOf, mark-read, place-read}
+use Rattle.demands.proofs.SenseTold.{answer-is, format-is, sense-is}
 use Rattle.demands.proofs.Fielded.{later, heard-call}
 use Rattle.demands.proofs.Places.{places-true}
-use Rattle.demands.proofs.Answering.{first-is, field-each, own-refusing, AtFields, fields-decide, fits, namedBytes, says, at-call, two-reaches, two-is, five-is}
+use Rattle.demands.proofs.Answering.{first-is, field-each, own-refusing, AtFields, fields-decide, fits, namedBytes, says, two-reaches, two-is, five-is}
 use Rattle.demands.proofs.Named.{placeFits, field-fits, field-named, own-named, own-fits, nowhere-else, own-long}
-
--- ---- sense of a refusal
-
-unfoldable hasSense : Answer → Bool
-hasSense Good = false
-hasSense (Refused x) = true
-hasSense Conflict = false
-hasSense Unusable = false
-hasSense Short = false
-
--- the buffer has room for it
-call-sense : (c : Call) → callAnswer c ≡ Good → 18 ≤ length (c .sense)
-unfolding callRows refuses
-call-sense c g = ltb-false _ _ (row-fails Unusable _ _ tt (rows-after Unusable _ _ tt (rows-after Unusable _ _ tt g)))
-
-module _ (s : Store) (c : Call) (x : Sense) (e : step s c .seen .answer ≡ Refused x) where
-  answer-is : answerTo s c ≡ Refused x
-  answer-is = sym (step-answer s c) ∙ e
-
-  sense-room : 18 ≤ length (c .sense)
-  unfolding hasSense
-  sense-room = call-sense c (at-call hasSense tt tt s c (rw answer-is tt))
-
-  sense-is : step s c .seen .sense ≡ fixedFormat x ++ drop 18 (c .sense)
-  unfolding senseAfter seenOf fixedFormat bytes
-  sense-is =
-      ap (λ v. v .sense) (step-seen s c) ∙ ap (λ (a : Answer). senseAfter a (c .sense)) answer-is ∙ put-front (c .sense) (fixedFormat x) sense-room
 
 -- ---- what a host reads
 
@@ -75,48 +51,35 @@ unfoldable isPlaced : Place → Bool
 isPlaced unplaced = false
 isPlaced (placed at top n) = true
 
--- a refusal that names no place leaves the bytes of one 0
-unmarked : (r : Refusal) → placeOf r ≡ unplaced → (pointerMark r ≡ 0) × (pointerByte r ≡ 0)
-unfolding placeOf pointerMark pointerByte isPlaced
+-- a refusal that names no place has none to tell
+unmarked : (r : Refusal) → placeOf r ≡ unplaced → (markOf (detailOf r) ≡ 0) × (atOf (detailOf r) ≡ 0)
+unfolding placeOf detailOf markOf atOf isPlaced
 unmarked NotListed e = (refl, refl)
 unmarked (InvalidField at top n) e = absurd (true≢false (ap isPlaced e))
-unmarked OutOfRange e = (refl, refl)
+unmarked (OutOfRange address) e = (refl, refl)
 unmarked ListLength e = (refl, refl)
 unmarked (ListField at top n) e = absurd (true≢false (ap isPlaced e))
 unmarked NoPlace e = (refl, refl)
 unmarked OtherType e = (refl, refl)
-unmarked NoRoom e = (refl, refl)
+unmarked (NoRoom address) e = (refl, refl)
 
-module _ (x : Sense) (rest : List ℕ) where
-  mark-read : byte 15 (fixedFormat x ++ rest) ≡ pointerMark (x .refusal)
-  unfolding fixedFormat byte
-  mark-read = refl
-
-  place-read : field 16 2 (fixedFormat x ++ rest) ≡ pointerByte (x .refusal) % 0x1_0000
-  unfolding fixedFormat
-  place-read = sym (field-drop 16 0 2 (fixedFormat x ++ rest)) ∙ field-bytes 2 (pointerByte (x .refusal)) rest
-
-  nowhere-read : placeOf (x .refusal) ≡ unplaced → field 15 3 (fixedFormat x ++ rest) ≡ 0
-  unfolding fixedFormat byte field bytes
-  nowhere-read e = let z = unmarked (x .refusal) e in rw (z .0, z .1)
-
-  codes-read : take 15 (fixedFormat x ++ rest)
-      ≡ 0x70 ∷ 0 ∷ codesOf (x .refusal) .key ∷ 0 ∷ 0 ∷ 0 ∷ 0 ∷ 0x0A ∷ 0 ∷ 0 ∷ 0 ∷ 0 ∷ codesOf (x .refusal) .asc ∷ codesOf (x .refusal) .ascq ∷ 0 ∷ []
-  unfolding fixedFormat
-  codes-read = refl
+-- three bytes of which the first is 0, and the number in the others
+nothing-there : (bs : List ℕ) → byte 0 bs ≡ 0 → field 1 2 bs ≡ 0 → field 0 3 bs ≡ 0
+unfolding field
+nothing-there bs m a = omega (arith, m, a)
 
 bit-is : (k x digit : ℕ) → x / 2 ^ k % 2 ≡ digit → bit k x ≡ eqb digit 1
 unfolding bit
 bit-is k x digit e = ap (λ (d : ℕ). eqb d 1) e
 
--- `which` is bit 6 of byte 15
-points-at : (which : ℕ) (b : Bits) (sense : List ℕ) → which < 2 → byte 15 sense ≡ 0x88 + 64 * which + topBit b % 8 → field 16 2 sense ≡ firstByte b % 0x1_0000
-    → topBit b ≤ 7 → firstByte b < 0x1_0000 → PointsAt (eqb which 1) b sense
+-- `which` is bit 6 of the first byte
+points-at : (which : ℕ) (b : Bits) (sense : List ℕ) → which < 2 → byte 0 (specific sense) ≡ 0x88 + 64 * which + topBit b % 8
+    → field 1 2 (specific sense) ≡ firstByte b % 0x1_0000 → topBit b ≤ 7 → firstByte b < 0x1_0000 → PointsAt (eqb which 1) b sense
 unfolding sksv commandData bpv bitPointer fieldPointer
 points-at which b sense hw mark place ht ha = record {
-  valid = bit-is 7 (byte 15 sense) 1 (omega arith);
-  which = bit-is 6 (byte 15 sense) which (omega arith);
-  bit-valid = bit-is 3 (byte 15 sense) 1 (omega arith);
+  valid = bit-is 7 (byte 0 (specific sense)) 1 (omega arith);
+  which = bit-is 6 (byte 0 (specific sense)) which (omega arith);
+  bit-valid = bit-is 3 (byte 0 (specific sense)) 1 (omega arith);
   at-bit = omega arith;
   at-byte = place ∙ mod-eq-of-lt ha;
   reserved = omega arith;
@@ -148,7 +111,7 @@ says-not n a d = false→T _ (ne-eqb (numberOf a) n d)
 
 module _ (s : Store) (c : Call) where
   -- a number of what is seen is one of the answer
-  says-seen : (n : ℕ) → numberOf (step s c .seen .answer) ≡ n → T (says n (answerTo s c))
+  pub says-seen : (n : ℕ) → numberOf (step s c .seen .answer) ≡ n → T (says n (answerTo s c))
   says-seen n e = says-of n (answerTo s c) (ap numberOf (sym (step-answer s c)) ∙ e)
 
   first-in-cdb : numberOf (step s c .seen .answer) ≡ 2 → step s c .seen .answer ≡ first (fieldRows (entryOf (c .cdb)) (c .cdb))
@@ -175,10 +138,10 @@ module _ (s : Store) (c : Call) where
     cdb-there = fits-lies _ _ _ _ cdb-fits
 
     cdb-told : PointsAt true b (step s c .seen .sense)
-    unfolding pointerMark pointerByte
+    unfolding detailOf markOf atOf
     cdb-told =
         rw (sense-is s c _ e)
-        (points-at 1 b _ (lit< tt) (mark-read _ _) (place-read _ _) (fits-top _ _ _ _ cdb-fits) (fits-sense _ _ _ _ cdb-fits))
+        (points-at 1 b _ (lit< tt) (mark-read _ _ _ (format-is s c _ e)) (place-read _ _ _ (format-is s c _ e)) (fits-top _ _ _ _ cdb-fits) (fits-sense _ _ _ _ cdb-fits))
 
 -- ---- answer 5
 
@@ -208,10 +171,10 @@ module _ (s : Store) (c : Call) where
         omega (arith, fits-lies _ _ _ _ list-fits, own-long (askedOf (c .cdb)) s c (rw (five-is s c says-five) at says-five))
 
     list-told : PointsAt false b (step s c .seen .sense)
-    unfolding pointerMark pointerByte
+    unfolding detailOf markOf atOf
     list-told =
         rw (sense-is s c _ e)
-        (points-at 0 b _ (lit< tt) (mark-read _ _) (place-read _ _) (fits-top _ _ _ _ list-fits) (fits-sense _ _ _ _ list-fits))
+        (points-at 0 b _ (lit< tt) (mark-read _ _ _ (format-is s c _ e)) (place-read _ _ _ (format-is s c _ e)) (fits-top _ _ _ _ list-fits) (fits-sense _ _ _ _ list-fits))
 
 -- ---- who leaves the field as it is
 
@@ -223,9 +186,9 @@ module _ (named : Bits → Answer) (l m : List ℕ) (p : Bits) (names : T (refus
   some-holds [] (y ∷ ys) h r e = absurd h
   some-holds (x ∷ xs) [] h r e = absurd h
   some-holds ((a if true) ∷ xs) ((b if true) ∷ ys) h r e = and-l (refuses b) (refusing ys) r
-  some-holds ((a if true) ∷ xs) ((b if false) ∷ ys) h r e = absurd (true≢false (h .1 p e g))
+  some-holds ((a if true) ∷ xs) ((b if false) ∷ ys) h r e = absurd (true≢false (h .2 p e g))
   some-holds ((a if false) ∷ xs) ((b if true) ∷ ys) h r e = and-l (refuses b) (refusing ys) r
-  some-holds ((a if false) ∷ xs) ((b if false) ∷ ys) h r e = some-holds xs ys (h .2) (and-r (refuses b) (refusing ys) r) e
+  some-holds ((a if false) ∷ xs) ((b if false) ∷ ys) h r e = some-holds xs ys (h .3) (and-r (refuses b) (refusing ys) r) e
 
 -- the fields refuse with 2 alone
 fields-two : (cdb : List ℕ) → T (refuses (first (fieldRows (entryOf cdb) cdb))) → numberOf (first (fieldRows (entryOf cdb) cdb)) ≡ 2
@@ -239,13 +202,13 @@ unfolding lengthRows
 length-same (Listed code) l m long = rw long
 length-same Unlisted l m long = refl
 
-call-same : (c : Call) (cdb : List ℕ) → length cdb ≡ length (c .cdb) → callRows c ≡ callRows (withCdb c cdb)
+call-same : (format : ℕ) (c : Call) (cdb : List ℕ) → length cdb ≡ length (c .cdb) → callRows format c ≡ callRows format (withCdb c cdb)
 unfolding callRows
-call-same c cdb long = rw long
+call-same format c cdb long = rw long
 
 also-reaches : (s : Store) (c : Call) (cdb : List ℕ) → length cdb ≡ length (c .cdb) → entryOf (c .cdb) ≡ entryOf cdb → AtFields s c → AtFields s (withCdb c cdb)
 also-reaches s c cdb long same f = record {
-  call = ap first (sym (call-same c cdb long)) ∙ f .call;
+  call = ap first (sym (call-same (s .format) c cdb long)) ∙ f .call;
   store = f .store;
   code = ap (λ (x : Entry). first (codeRows x)) (sym same) ∙ f .code;
   length = ap first (sym (length-same (entryOf cdb) (c .cdb) cdb long)) ∙ ap (λ (x : Entry). first (lengthRows x (c .cdb))) (sym same) ∙ f .length;
@@ -267,7 +230,7 @@ cdb-stays s c b e cdb hl hm long entry g =
 own-refused : (s : Store) (c : Call) → T (refuses (ownAnswer s c)) → T (refuses (answerTo s c))
 own-refused s c t =
     rw (parts s c)
-    (next-refused (callAnswer c) _ (next-refused (storeAnswer s) _ (next-refused (codeAnswer c) _ (next-refused (lengthAnswer c) _
+    (next-refused (callAnswer (s .format) c) _ (next-refused (storeAnswer s) _ (next-refused (codeAnswer c) _ (next-refused (lengthAnswer c) _
     (next-refused (fieldAnswer c) _ (next-refused (guardAnswer (s .unit) c) _ t))))))
 
 own-stays : (x : Asked) (s : Store) (c : Call) (b : Bits) → first (ownRows x s c) ≡ listField b
@@ -287,17 +250,13 @@ list-stays s c b e list hl hm g =
 
 -- ---- the others
 
-nowhere : (s : Store) (c : Call) (x : Sense) → step s c .seen .answer ≡ Refused x
-    → numberOf (step s c .seen .answer) ≢ 2 → numberOf (step s c .seen .answer) ≢ 5 → field 15 3 (step s c .seen .sense) ≡ 0
+nowhere : (s : Store) (c : Call) (x : Refusal) → step s c .seen .answer ≡ Refused x
+    → numberOf (step s c .seen .answer) ≢ 2 → numberOf (step s c .seen .answer) ≢ 5 → field 0 3 (specific (step s c .seen .sense)) ≡ 0
 unfolding placeIn
 nowhere s c x e d f =
+    let bare = unmarked x (ap placeIn (sym (answer-is s c x e)) ∙ nowhere-else s c (says-not 2 _ (rw (step-answer s c) at d)) (says-not 5 _ (rw (step-answer s c) at f))) in
     rw (sense-is s c x e)
-    (nowhere-read x _ (ap placeIn (sym (answer-is s c x e)) ∙ nowhere-else s c (says-not 2 _ (rw (step-answer s c) at d)) (says-not 5 _ (rw (step-answer s c) at f))))
-
-codes : (s : Store) (c : Call) (x : Sense) → step s c .seen .answer ≡ Refused x
-    → take 15 (step s c .seen .sense)
-    ≡ 0x70 ∷ 0 ∷ codesOf (x .refusal) .key ∷ 0 ∷ 0 ∷ 0 ∷ 0 ∷ 0x0A ∷ 0 ∷ 0 ∷ 0 ∷ 0 ∷ codesOf (x .refusal) .asc ∷ codesOf (x .refusal) .ascq ∷ 0 ∷ []
-codes s c x e = rw (sense-is s c x e) (codes-read x _)
+    (nothing-there _ (mark-read _ _ _ (format-is s c x e) ∙ bare .0) (place-read _ _ _ (format-is s c x e) ∙ ap (λ (n : ℕ). n % 0x1_0000) (bare .1)))
 
 -- ---- what is wrong is told
 
@@ -319,7 +278,7 @@ module _ (s : Store) (c : Call) (h : Heard s c) (code : Code) (e : entryOf (c .c
       step-answer s c ∙ from-fields s c (heard-call s c h some-byte) (h .store) code-passes length-passes
       ∙ ap (λ (a : Answer). next a (later s c)) w ∙ next-refuses (invalidField b) (later s c) tt
 
-list-due : (s : Store) (c : Call) → T (usable s) → byItself c ≡ Good → guardAnswer (s .unit) c ≡ Good → (b : Bits) → ownAnswer s c ≡ listField b
+list-due : (s : Store) (c : Call) → T (usable s) → byItself (s .format) c ≡ Good → guardAnswer (s .unit) c ≡ Good → (b : Bits) → ownAnswer s c ≡ listField b
     → step s c .seen .answer ≡ listField b
 unfolding byItself
 list-due s c u right free b w =
@@ -340,5 +299,4 @@ pointed = record {
   cdb-stays = cdb-stays;
   list-stays = list-stays;
   nowhere = nowhere;
-  codes = codes;
 }

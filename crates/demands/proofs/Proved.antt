@@ -16,6 +16,7 @@ use Rattle.demands.proofs.MapTold.{map-told}
 use Rattle.demands.proofs.Limits.{limits}
 use Rattle.demands.proofs.Pointed.{pointed}
 use Rattle.demands.proofs.Places.{places-true}
+use Rattle.demands.proofs.Sensed.{sensed}
 use Rattle.demands.proofs.FromFresh.{from-fresh}
 use Rattle.demands.proofs.Demand3.{demand-3, secrecy}
 use Rattle.demands.proofs.AtC.{faithful, demand-1-at-c, demand-3-at-c}
@@ -37,6 +38,7 @@ proved = record {
   limits = limits;
   pointed = pointed;
   places-true = places-true;
+  sensed = sensed;
   from-fresh = from-fresh;
   taken-over = fresh-taken-over;
   demand-3 = demand-3;

@@ -12,6 +12,7 @@ use Rattle.answers.specs.declared.Answer.the-variants.{Good, Short}
 use Rattle.answers.specs.Answers.{outOfRange, noRoom}
 use Rattle.answers.specs.Order.{Row, _if_, first, firstOf}
 use Rattle.answers.proofs.OrderLaws.{good-cases}
+use Rattle.answers.specs.Sense.{formatOk}
 use Rattle.pool.specs.Pool.{Pool, roomFor}
 use Rattle.pool.specs.Valid.{capacityOk, slotsOk, poolOk}
 use Rattle.pool.proofs.Keeping.{mapOk-distinct, poolOk-whole, poolOk-map, poolOk-unmapBlocks}
@@ -31,7 +32,7 @@ use Rattle.store.specs.Store.{Store, Call, Seen, usable, seenOf}
 use Rattle.store.specs.Same.{unmapsSame}
 use Rattle.store.specs.Move.{writeRows, sameRows, statusTold, statusRows, moveRows, moved, fetched}
 use Rattle.store.specs.Fresh.{freshStore}
-use Rattle.store.specs.Step.{commandRows, ownRows, commandData, dataBy, commandStore, storeBy, step}
+use Rattle.store.specs.Step.{commandRows, ownRows, commandData, dataBy, commandStore, storeBy, step, answerTo}
 use Rattle.store.proofs.Parts.{answers-alike, good-own}
 use Rattle.store.proofs.StoreLaws.{step-answer, step-seen, command-rows, command-data, command-unit}
 use Rattle.store.proofs.SameLaws.{same-alike}
@@ -45,13 +46,13 @@ use Rattle.demands.proofs.Transfers.{fresh-contents}
 use Rattle.demands.proofs.Unmaps.{each-moved}
 
 pub same-self : (s : Store) → Same s s
-same-self s = record { unit = refl; pool = alike-self (s .pool) }
+same-self s = record { format = refl; unit = refl; pool = alike-self (s .pool) }
 
 pub same-back : (s t : Store) → Same s t → Same t s
-same-back s t e = record { unit = sym (e .unit); pool = alike-back (s .pool) (t .pool) (e .pool) }
+same-back s t e = record { format = sym (e .format); unit = sym (e .unit); pool = alike-back (s .pool) (t .pool) (e .pool) }
 
 pub same-through : (s t x : Store) → Same s t → Same t x → Same s x
-same-through s t x e d = record { unit = e .unit ∙ d .unit; pool = alike-through (s .pool) (t .pool) (x .pool) (e .pool) (d .pool) }
+same-through s t x e d = record { format = e .format ∙ d .format; unit = e .unit ∙ d .unit; pool = alike-through (s .pool) (t .pool) (x .pool) (e .pool) (d .pool) }
 
 -- ---- what is seen
 
@@ -65,14 +66,14 @@ unfolding moveRows writeRows sameRows statusRows statusTold roomFor
 rows-same Read q capacity x y c l = refl
 rows-same Write q capacity x y c l =
     behind (outOfRange _) _ _ _ (behind Short _ _ _
-    (ap₂ (λ (m n : ℕ). first (noRoom if not (leb m n) ∷ [])) (alike-unmapped x y l (q .address .0) (countIn q)) (l .frees)))
+    (ap₂ (λ (m n : ℕ). first (noRoom (q .address .0) if not (leb m n) ∷ [])) (alike-unmapped x y l (q .address .0) (countIn q)) (l .frees)))
 rows-same WriteSame q capacity x y c l =
     behind (outOfRange _) _ _ _ (behind Short _ _ _
-    (ap₂ (λ (m n : ℕ). first (noRoom if (not (unmapsSame (q .options) (c .dataOut)) && not (leb m n)) ∷ []))
+    (ap₂ (λ (m n : ℕ). first (noRoom (q .address .0) if (not (unmapsSame (q .options) (c .dataOut)) && not (leb m n)) ∷ []))
     (alike-unmapped x y l (q .address .0) (countIn q)) (l .frees)))
 rows-same Unmap q capacity x y c l = refl
 rows-same Status q capacity x y c l =
-    ap (λ (page : List ℕ). first (outOfRange if leb capacity (q .address .0) ∷ Short if ltb (length (c .dataIn)) (length (take (allocationIn q) page)) ∷ []))
+    ap (λ (page : List ℕ). first (outOfRange (q .address .0) if leb capacity (q .address .0) ∷ Short if ltb (length (c .dataIn)) (length (take (allocationIn q) page)) ∷ []))
     (status-same capacity (q .address .0) (x .owners) (y .owners) (l .maps))
 
 fetched-same : (m : Move) (q : Request) (capacity : ℕ) (x y : Pool) → Alike x y → fetched m q capacity x ≡ fetched m q capacity y
@@ -112,8 +113,9 @@ module _ (s t : Store) (c : Call) (e : Same s t) where
 pub same-seen : (s t : Store) (c : Call) → T (usable s) → T (usable t) → Same s t → step s c .seen ≡ step t c .seen
 same-seen s t c u v e =
     step-seen s c
-    ∙ ap₂ (λ (a : Answer) (bs : List ℕ). seenOf a bs c)
-    (answers-alike s t c u v (e .unit) (λ g. own-same s t c e (askedOf (c .cdb)))) (data-same s t c e (askedOf (c .cdb)))
+    ∙ ap₂ (λ (a : Answer) (bs : List ℕ). seenOf (s .format) a bs c)
+    (answers-alike s t c u v (e .format) (e .unit) (λ g. own-same s t c e (askedOf (c .cdb)))) (data-same s t c e (askedOf (c .cdb)))
+    ∙ ap (λ (f : ℕ). seenOf f (answerTo t c) (dataBy (askedOf (c .cdb)) t) c) (e .format)
     ∙ sym (step-seen t c)
 
 -- ---- what is left
@@ -146,10 +148,11 @@ module _ (s t : Store) (c : Call) (u : T (usable s)) (v : T (usable t)) (e : Sam
   unfolding commandRows commandStore
   left-same (Tells x) q g = e
   left-same (Moves m) q g = record {
+    format = e .format;
     unit = e .unit;
     pool = moved-same (s .unit .capacity) (s .pool) (t .pool) c (usable-pool s u) (rw (e .unit) (usable-pool t v)) (e .pool) m q g;
   }
-  left-same (Alters a) q g = record { unit = command-unit (Alters a) q s t c (e .unit); pool = e .pool }
+  left-same (Alters a) q g = record { format = e .format; unit = command-unit (Alters a) q s t c (e .unit); pool = e .pool }
 
   done-same : (x : Asked) → first (ownRows x s c) ≡ Good → Same (storeBy x s c) (storeBy x t c)
   unfolding ownRows storeBy
@@ -177,16 +180,17 @@ same-answers s t u v e (call c ∷ es) =
 -- ---- a fresh store
 
 -- what the medium held before is never seen, by any history
-pub fresh-same : (capacity slots : ℕ) (medium medium′ : List ℕ) → Same (freshStore capacity slots medium) (freshStore capacity slots medium′)
+pub fresh-same : (capacity format slots : ℕ) (medium medium′ : List ℕ) → Same (freshStore capacity format slots medium) (freshStore capacity format slots medium′)
 unfolding freshStore
-fresh-same capacity slots medium medium′ = record {
+fresh-same capacity format slots medium medium′ = record {
+  format = refl;
   unit = refl;
-  pool = record { frees = refl; maps = λ b. refl; reads = λ b. fresh-contents capacity slots medium b ∙ sym (fresh-contents capacity slots medium′ b) };
+  pool = record { frees = refl; maps = λ b. refl; reads = λ b. fresh-contents capacity format slots medium b ∙ sym (fresh-contents capacity format slots medium′ b) };
 }
 
-pub old-bytes-hidden : (capacity slots : ℕ) (medium medium′ : List ℕ) → T (capacityOk capacity) → T (slotsOk slots)
+pub old-bytes-hidden : (capacity format slots : ℕ) (medium medium′ : List ℕ) → T (capacityOk capacity) → T (formatOk format) → T (slotsOk slots)
     → length medium ≡ 512 * slots → length medium′ ≡ 512 * slots → (es : List Event)
-    → seenAll (machine step) (freshStore capacity slots medium) es ≡ seenAll (machine step) (freshStore capacity slots medium′) es
-old-bytes-hidden capacity slots medium medium′ x y e e′ es =
-    same-answers (freshStore capacity slots medium) (freshStore capacity slots medium′) (fresh-usable capacity slots medium x y e)
-    (fresh-usable capacity slots medium′ x y e′) (fresh-same capacity slots medium medium′) es
+    → seenAll (machine step) (freshStore capacity format slots medium) es ≡ seenAll (machine step) (freshStore capacity format slots medium′) es
+old-bytes-hidden capacity format slots medium medium′ x f y e e′ es =
+    same-answers (freshStore capacity format slots medium) (freshStore capacity format slots medium′) (fresh-usable capacity format slots medium x f y e)
+    (fresh-usable capacity format slots medium′ x f y e′) (fresh-same capacity format slots medium medium′) es

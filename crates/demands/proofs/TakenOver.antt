@@ -15,9 +15,10 @@ use Rattle.answers.specs.declared.Answer.the-variants.{Conflict}
 use Rattle.answers.specs.Answers.{noPlace}
 use Rattle.answers.specs.Order.{_if_, firstOf}
 use Rattle.answers.proofs.OrderLaws.{row-pass, row-end}
+use Rattle.answers.specs.Sense.{formatOk, fixed}
 use Rattle.rights.specs.declared.Place.{Place}
 use Rattle.rights.specs.declared.Rights.{Rights}
-use Rattle.rights.specs.declared.Action.the-variants.{Register, Reserve}
+use Rattle.rights.specs.declared.Action.the-variants.{Register, Reserve, Preempt}
 use Rattle.rights.specs.Places.{unused, registration, used, isOf, registered, keyOf, vacant, enrol}
 use Rattle.rights.specs.Rights.{allHold, withPlaces, withReservation, withGeneration, held, raised, noRights}
 use Rattle.rights.specs.Actions.{stranger, keyWrong, crowded, actionRows, registering, reserving, acted}
@@ -34,10 +35,11 @@ use Rattle.demands.specs.Reservations.{keyIn, isRegistered, typeIn}
 use Rattle.demands.specs.ZeroKey.{senderKey, Sends, gaveKey, zeroAnswer, Which, first-one, second-one, third-one, Story, events, answersOf, ending, TakenOver}
 use Rattle.demands.specs.Bench.{out}
 use Rattle.demands.proofs.Computing.{meaning}
-use Rattle.demands.proofs.Usable.{usable-stays}
+use Rattle.demands.proofs.Usable.{usable-stays, format-after}
 use Rattle.demands.proofs.Fresh.{fresh-usable}
 use Rattle.demands.proofs.Altering.{altered}
 use Rattle.demands.proofs.ZeroKey.{sent-answer, zero-answer, zero-registrations, zero-type, zero-holders, zero-rises, zero-keys, zero-reservation, zero-others}
+use Rattle.demands.proofs.Moving.{good-any}
 
 -- ---- a registration more
 
@@ -47,7 +49,7 @@ no-room-needed true false true t = refl
 no-room-needed false b true t = refl
 no-room-needed a b false t = absurd t
 
-module _ (s : Store) (c : Call) (w : Sends Register c) (u : T (usable s)) (own : senderKey c ≡ 0)
+module _ (s : Store) (c : Call) (w : Sends (s .format) Register c) (u : T (usable s)) (own : senderKey c ≡ 0)
     (new : T (not (registered (c .nexus) (s .unit .rights .places)))) (room : T (vacant (s .unit .rights .places))) where
   joins-good : IsGood s c
   unfolding keyWrong actionRows crowded parametersOf numberIn senderKey serviceKey
@@ -66,12 +68,13 @@ module _ (s : Store) (c : Call) (w : Sends Register c) (u : T (usable s)) (own :
 abbrev rightsOf : List Place → ℕ → ℕ → Rights
 rightsOf places generation kind = record { places = places; holder = 0; generation = generation; kind = kind }
 
--- a store that can be used, and its rights
-record Stage (s : Store) (r : Rights) : Type 0 where
+-- a store that can be used, its format and its rights
+record Stage (s : Store) (format : ℕ) (r : Rights) : Type 0 where
   pub store : T (usable s)
+  pub format-is : s .format ≡ format
   pub rights : s .unit .rights ≡ r
 
-module _ (t : Story) where
+module _ {format : ℕ} (t : Story format) where
   abbrev place : Which → Place
   place i = registration (t .nexus i) (t .key i)
 
@@ -162,25 +165,29 @@ module _ (t : Story) where
   -- ---- one call after another
 
   -- one of the three registers
-  joins : (i : Which) (s : Store) (ps qs : List Place) (g h : ℕ) → Stage s (rightsOf ps g 0)
+  joins : (i : Which) (s : Store) (ps qs : List Place) (g h : ℕ) → Stage s format (rightsOf ps g 0)
       → registered (t .nexus i) ps ≡ false → vacant ps ≡ true → registering (rightsOf ps g 0) (t .nexus i) (t .key i) ≡ rightsOf qs h 0
-      → IsGood s (t .register i) × Stage (after step s (t .register i)) (rightsOf qs h 0)
+      → IsGood s (t .register i) × Stage (after step s (t .register i)) format (rightsOf qs h 0)
   joins i s ps qs g h x new room e = (
-    joins-good s (t .register i) (t .registers i) (x .store) (t .registers-own i) is-new is-room,
+    joins-good s (t .register i) sent (x .store) (t .registers-own i) is-new is-room,
     record {
       store = usable-stays s (t .register i) (x .store);
-      rights = joins-rights s (t .register i) (t .registers i) (x .store) (t .registers-own i) is-new is-room
+      format-is = format-after s (t .register i) ∙ x .format-is;
+      rights = joins-rights s (t .register i) sent (x .store) (t .registers-own i) is-new is-room
           ∙ rw (x .rights, t .registers-key i, t .registers-from i) e;
     },
   )
     where
+      sent : Sends (s .format) Register (t .register i)
+      sent = subst (λ (v : ℕ). Sends v Register (t .register i)) (sym (x .format-is)) (t .registers i)
+
       is-new : T (not (registered (t .register i .nexus) (s .unit .rights .places)))
       is-new = rw (x .rights, t .registers-from i, new) tt
 
       is-room : T (vacant (s .unit .rights .places))
       is-room = rw (x .rights, room) tt
 
-  module _ (s : Store) (u : T (usable s)) (empty : s .unit .rights ≡ noRights) where
+  module _ (s : Store) (u : T (usable s)) (f : s .format ≡ format) (empty : s .unit .rights ≡ noRights) where
     abbrev after-first : Store
     after-first = after step s (t .register first-one)
 
@@ -193,14 +200,14 @@ module _ (t : Story) where
     abbrev after-reserve : Store
     after-reserve = after step after-third (t .reserve)
 
-    first-joins : IsGood s (t .register first-one) × Stage after-first (rightsOf one-there 1 0)
+    first-joins : IsGood s (t .register first-one) × Stage after-first format (rightsOf one-there 1 0)
     unfolding noRights registered isOf used vacant
-    first-joins = joins first-one s none-there one-there 0 1 (record { store = u; rights = empty }) refl refl joined-first
+    first-joins = joins first-one s none-there one-there 0 1 (record { store = u; format-is = f; rights = empty }) refl refl joined-first
 
-    second-joins : IsGood after-first (t .register second-one) × Stage after-second (rightsOf two-there 2 0)
+    second-joins : IsGood after-first (t .register second-one) × Stage after-second format (rightsOf two-there 2 0)
     second-joins = joins second-one after-first one-there two-there 1 2 (first-joins .1) second-new one-vacant joined-second
 
-    third-joins : IsGood after-second (t .register third-one) × Stage after-third (rightsOf three-there 3 0)
+    third-joins : IsGood after-second (t .register third-one) × Stage after-third format (rightsOf three-there 3 0)
     third-joins = joins third-one after-second two-there three-there 2 3 (second-joins .1) third-new two-vacant joined-third
 
     -- the reservation for all
@@ -210,7 +217,7 @@ module _ (t : Story) where
     good-reserve : IsGood after-third (t .reserve)
     unfolding keyWrong stranger actionRows parametersOf senderKey firstOf
     good-reserve =
-        sent-answer Reserve after-third (t .reserve) (t .reserves) (third-joins .1 .store)
+        sent-answer Reserve after-third (t .reserve) (subst (λ (v : ℕ). Sends v Reserve (t .reserve)) (sym (third-joins .1 .format-is)) (t .reserves)) (third-joins .1 .store)
         ∙ rw (third-joins .1 .rights, t .reserves-from, t .reserves-own, there (t .holder), key-there (t .holder), same-key (t .holder))
 
     rights-reserve : after-reserve .unit .rights ≡ rightsOf three-there 3 (t .reserves .asked .request .kind)
@@ -222,10 +229,13 @@ module _ (t : Story) where
     unfolding keyIn
     sender-has = rw (rights-reserve, t .preempts-from) (key-there (t .sender))
 
+    format-reserve : after-reserve .format ≡ format
+    format-reserve = format-after after-third (t .reserve) ∙ third-joins .1 .format-is
+
     good-preempt : IsGood after-reserve (t .preempt)
     unfolding zeroAnswer gaveKey isRegistered keyIn typeIn
     good-preempt =
-        zero-answer after-reserve (t .preempt) (t .preempts) (t .preempts-zero) (usable-stays after-third (t .reserve) (third-joins .1 .store))
+        zero-answer after-reserve (t .preempt) (subst (λ (v : ℕ). Sends v Preempt (t .preempt)) (sym format-reserve) (t .preempts)) (t .preempts-zero) (usable-stays after-third (t .reserve) (third-joins .1 .store))
         ∙ rw (rights-reserve, t .preempts-own, t .preempts-from, there (t .sender), key-there (t .sender), same-key (t .sender), for-all)
 
     four : generation (after step after-reserve (t .preempt)) ≡ 4
@@ -246,17 +256,17 @@ module _ (t : Story) where
               ∙ ap (λ (m : ℕ). cond (eqb n m) (t .key (t .sender)) 0) (t .preempts-from);
           type = zero-type after-reserve (t .preempt) w e z;
           holders = λ n. zero-holders after-reserve (t .preempt) w e z n ∙ ap (eqb n) (t .preempts-from);
-          keys-told = λ c a g. rw (← four, ← sender-has) (zero-keys after-reserve (t .preempt) w e z c a g);
-          reservation-told = λ c a g. rw (← four, ← sender-has) (zero-reservation after-reserve (t .preempt) w e z c a g);
-          others = λ m c a g d. zero-others after-reserve (t .preempt) w e z m c a g (λ i. d (i ∙ t .preempts-from));
+          keys-told = λ c a g. rw (← four, ← sender-has) (zero-keys after-reserve (t .preempt) w e z c a g ∙ good-any _ format _ c);
+          reservation-told = λ c a g. rw (← four, ← sender-has) (zero-reservation after-reserve (t .preempt) w e z c a g ∙ good-any _ format _ c);
+          others = λ m c a g d. zero-others after-reserve (t .preempt) w e z m c a (ap (λ (v : ℕ). byItself v c) format-reserve ∙ g) (λ i. d (i ∙ t .preempts-from));
         }
 
 -- every fresh store within its bounds is one
-pub fresh-taken-over : (capacity slots : ℕ) (medium : List ℕ) → T (capacityOk capacity) → T (slotsOk slots) → length medium ≡ 512 * slots
-    → (t : Story) → TakenOver step (freshStore capacity slots medium) t
+pub fresh-taken-over : (capacity format slots : ℕ) (medium : List ℕ) → T (capacityOk capacity) → T (formatOk format) → T (slotsOk slots)
+    → length medium ≡ 512 * slots → (t : Story format) → TakenOver step (freshStore capacity format slots medium) t
 unfolding freshStore freshUnit
-fresh-taken-over capacity slots medium x y e t =
-    taken-over t (freshStore capacity slots medium) (fresh-usable capacity slots medium x y e) refl
+fresh-taken-over capacity format slots medium x f y e t =
+    taken-over t (freshStore capacity format slots medium) (fresh-usable capacity format slots medium x f y e) refl refl
 
 -- ---- there are such stories
 
@@ -284,7 +294,7 @@ numbers-some first-one e = absurd (omega arith)
 numbers-some second-one e = absurd (omega arith)
 numbers-some third-one e = absurd (omega arith)
 
-sends-register : (i : Which) → Sends Register (out (number i) 0 0 0 (number i))
+sends-register : (i : Which) → Sends fixed Register (out (number i) 0 0 0 (number i))
 unfolding meaning byItself number
 sends-register first-one = record { asked = record { request = _; is = refl; command = refl }; right = refl; long = refl; whole = omega arith; flags = refl }
 sends-register second-one = record { asked = record { request = _; is = refl; command = refl }; right = refl; long = refl; whole = omega arith; flags = refl }
@@ -304,7 +314,7 @@ from-itself : (i : Which) → out (number i) 0 0 0 (number i) .nexus ≡ number 
 unfolding meaning
 from-itself i = refl
 
-pub story : Story
+pub story : Story fixed
 unfolding meaning byItself senderKey serviceKey number
 story = record {
   nexus = number;

@@ -30,8 +30,8 @@ module _ (t : Tell) (s : Store) (c : Call) (w : AsksFor (Tells t) c) where
   unfolding dataBy commandData
   told-data = rw (w .is, w .command)
 
-  pub told-seen : IsGood s c → step s c .seen ≡ seenOf Good (told t (w .request) (s .unit)) c
-  told-seen e = step-seen s c ∙ ap₂ (λ (x : Answer) (bs : List ℕ). seenOf x bs c) (sym (step-answer s c) ∙ e) told-data
+  pub told-seen : IsGood s c → step s c .seen ≡ seenOf (s .format) Good (told t (w .request) (s .unit)) c
+  told-seen e = step-seen s c ∙ ap₂ (λ (x : Answer) (bs : List ℕ). seenOf (s .format) x bs c) (sym (step-answer s c) ∙ e) told-data
 
   -- the bytes returned are what is told: all of it is there, for it fits
   pub returned-told : IsGood s c → returnedBy step s c ≡ told t (w .request) (s .unit)

@@ -15,18 +15,18 @@ use Rattle.pool.specs.Pool.{Pool, readBlock, readBlocks, writeBlocks}
 use Rattle.pool.proofs.Keeping.{poolOk-whole}
 use Rattle.pool.proofs.Reading.{fresh-read, read-fresh, write-in, write-out, reads-same, read-after-write, length-readBlocks}
 use Rattle.forms.specs.declared.Move.the-variants.{Read, Write}
-use Rattle.forms.specs.Forms.{countIn}
+use Rattle.forms.specs.Forms.{countIn, askedOf}
 use Rattle.store.specs.declared.Unit.{Unit}
 use Rattle.store.specs.Store.{Store, Call, Seen, usable, seenOf}
 use Rattle.store.specs.Move.{moveRows, moved, fetched}
 use Rattle.store.specs.Fresh.{freshStore}
-use Rattle.store.specs.Step.{step}
+use Rattle.store.specs.Step.{step, answerTo, dataBy}
 use Rattle.store.proofs.Parts.{answers-alike}
 use Rattle.store.proofs.StoreLaws.{step-seen}
 use Rattle.store.proofs.MoveLaws.{read-passes, write-passes}
 use Rattle.demands.specs.History.{after}
 use Rattle.demands.specs.Contents.{Asks, addressIn, blocksIn, IsGood, Inside, Room, Outside, SameRange, Apart}
-use Rattle.demands.proofs.Usable.{usable-pool, usable-stays}
+use Rattle.demands.proofs.Usable.{usable-pool, usable-stays, format-after}
 use Rattle.demands.proofs.Moving.{good-usable, good-seen, good-pool, good-rows, after-ways, moves-unit, asks-rows, asks-data}
 
 -- a usable store is lent 512 bytes for each slot
@@ -37,7 +37,7 @@ usable-whole s u = poolOk-whole (s .unit .capacity) (s .pool) (usable-pool s u)
 
 module _ (s : Store) (r : Call) (a : Asks Read r) (e : IsGood s r) where
   -- it returns the blocks named
-  pub read-seen : step s r .seen ≡ seenOf Good (blocksIn (s .pool) (a .request)) r
+  pub read-seen : step s r .seen ≡ seenOf (s .format) Good (blocksIn (s .pool) (a .request)) r
   unfolding fetched
   read-seen = good-seen Read s r a e
 
@@ -60,8 +60,8 @@ module _ (s : Store) (r : Call) (a : Asks Read r) (e : IsGood s r) where
       ∙ ap (λ (n : ℕ). take n (put (r .dataIn) 0 (blocksIn (s .pool) (a .request)))) (sym length-read)
       ∙ part-put-same (r .dataIn) 0 (blocksIn (s .pool) (a .request)) (let l = length-read in let h = read-long in omega arith)
 
--- a READ sees the unit's record and the blocks it names, and nothing else
-module _ (s t : Store) (r : Call) (a : Asks Read r) (e : s .unit ≡ t .unit) where
+-- a READ sees the format, the unit's record and the blocks it names, and nothing else
+module _ (s t : Store) (r : Call) (a : Asks Read r) (f : s .format ≡ t .format) (e : s .unit ≡ t .unit) where
   read-rows : first (moveRows Read (a .request) (s .unit .capacity) (s .pool) r) ≡ first (moveRows Read (a .request) (t .unit .capacity) (t .pool) r)
   unfolding moveRows
   read-rows = ap (λ (u : Unit). first (moveRows Read (a .request) (u .capacity) (s .pool) r)) e
@@ -70,9 +70,10 @@ module _ (s t : Store) (r : Call) (a : Asks Read r) (e : s .unit ≡ t .unit) wh
   unfolding fetched
   read-sees u v d =
       step-seen s r
-      ∙ ap₂ (λ (x : Answer) (bs : List ℕ). seenOf x bs r)
-      (answers-alike s t r u v e (λ g. ap first (asks-rows Read r a s) ∙ read-rows ∙ sym (ap first (asks-rows Read r a t))))
+      ∙ ap₂ (λ (x : Answer) (bs : List ℕ). seenOf (s .format) x bs r)
+      (answers-alike s t r u v f e (λ g. ap first (asks-rows Read r a s) ∙ read-rows ∙ sym (ap first (asks-rows Read r a t))))
       (asks-data Read r a s ∙ d ∙ sym (asks-data Read r a t))
+      ∙ ap (λ (x : ℕ). seenOf x (answerTo t r) (dataBy (askedOf (r .cdb)) t) r) f
       ∙ sym (step-seen t r)
 
 -- ---- a WRITE that is GOOD
@@ -123,8 +124,8 @@ module _ (s : Store) (w r : Call) (a : Asks Write w) (b : Asks Read r) where
 
   -- the READ sees the data written, in place of the first bytes of its data-in
   pub write-then-read-seen : SameRange (a .request) (b .request) → IsGood s w → IsGood (after step s w) r
-      → step (after step s w) r .seen ≡ seenOf Good (take (512 * countIn (a .request)) (w .dataOut)) r
-  write-then-read-seen e g h = read-seen (after step s w) r b h ∙ ap (λ (bs : List ℕ). seenOf Good bs r) (written e g)
+      → step (after step s w) r .seen ≡ seenOf (after step s w .format) Good (take (512 * countIn (a .request)) (w .dataOut)) r
+  write-then-read-seen e g h = read-seen (after step s w) r b h ∙ ap (λ (bs : List ℕ). seenOf (after step s w .format) Good bs r) (written e g)
 
   pub write-then-read : SameRange (a .request) (b .request) → IsGood s w → IsGood (after step s w) r
       → take (512 * countIn (a .request)) (step (after step s w) r .seen .dataIn) ≡ take (512 * countIn (a .request)) (w .dataOut)
@@ -135,19 +136,19 @@ module _ (s : Store) (w r : Call) (a : Asks Write w) (b : Asks Read r) where
   pub write-keeps-others : Apart (a .request) (b .request) → step (after step s w) r .seen ≡ step s r .seen
   write-keeps-others out =
       after-ways s w (λ t. step t r .seen ≡ step s r .seen)
-      (λ e. let u = good-usable s w e in read-sees (after step s w) s r b (moves-unit Write s w a) (usable-stays s w u) u
+      (λ e. let u = good-usable s w e in read-sees (after step s w) s r b (format-after s w) (moves-unit Write s w a) (usable-stays s w u) u
       (reads-same (after step s w .pool) (s .pool) (addressIn (b .request)) (countIn (b .request))
       (λ i h. write-keeps s w a (addressIn (b .request) + i) (out i h)))) refl
 
 -- ---- a fresh store
 
 -- it reads zeros everywhere, whatever bytes its medium holds
-pub fresh-contents : (capacity slots : ℕ) (medium : List ℕ) (b : ℕ) → readBlock (freshStore capacity slots medium .pool) b ≡ zeros 512
+pub fresh-contents : (capacity format slots : ℕ) (medium : List ℕ) (b : ℕ) → readBlock (freshStore capacity format slots medium .pool) b ≡ zeros 512
 unfolding freshStore
-fresh-contents capacity slots medium b = fresh-read slots medium b
+fresh-contents capacity format slots medium b = fresh-read slots medium b
 
-pub fresh-reads-zeros : (capacity slots : ℕ) (medium : List ℕ) (r : Call) (a : Asks Read r) → IsGood (freshStore capacity slots medium) r
-    → step (freshStore capacity slots medium) r .seen ≡ seenOf Good (zeros (512 * countIn (a .request))) r
+pub fresh-reads-zeros : (capacity format slots : ℕ) (medium : List ℕ) (r : Call) (a : Asks Read r) → IsGood (freshStore capacity format slots medium) r
+    → step (freshStore capacity format slots medium) r .seen ≡ seenOf format Good (zeros (512 * countIn (a .request))) r
 unfolding freshStore
-fresh-reads-zeros capacity slots medium r a e =
-    read-seen (freshStore capacity slots medium) r a e ∙ ap (λ (bs : List ℕ). seenOf Good bs r) (read-fresh slots medium _ _)
+fresh-reads-zeros capacity format slots medium r a e =
+    read-seen (freshStore capacity format slots medium) r a e ∙ ap (λ (bs : List ℕ). seenOf format Good bs r) (read-fresh slots medium _ _)

@@ -22,7 +22,7 @@ use Rattle.store.specs.Move.{moved}
 use Rattle.store.specs.Step.{step}
 use Rattle.demands.specs.History.{after}
 use Rattle.demands.specs.Contents.{inRange, Asks, addressIn, IsGood, Outside, descriptorsFrom, descriptorsOf, unmapEach, covers, names}
-use Rattle.demands.proofs.Usable.{usable-stays}
+use Rattle.demands.proofs.Usable.{usable-stays, format-after}
 use Rattle.demands.proofs.Moving.{good-usable, good-pool, after-ways, moves-unit}
 use Rattle.demands.proofs.Transfers.{read-seen, read-sees}
 
@@ -166,10 +166,10 @@ module _ (s : Store) (c : Call) (a : Asks Unmap c) where
 
 module _ (s : Store) (c r : Call) (a : Asks Unmap c) (b : Asks Read r) where
   pub unmap-then-read : ((i : ℕ) → i < countIn (b .request) → T (named c a (addressIn (b .request) + i))) → IsGood s c → IsGood (after step s c) r
-      → step (after step s c) r .seen ≡ seenOf Good (zeros (512 * countIn (b .request))) r
+      → step (after step s c) r .seen ≡ seenOf (after step s c .format) Good (zeros (512 * countIn (b .request))) r
   unmap-then-read within g h =
       read-seen (after step s c) r b h
-      ∙ ap (λ (bs : List ℕ). seenOf Good bs r)
+      ∙ ap (λ (bs : List ℕ). seenOf (after step s c .format) Good bs r)
       (reads-zeros (after step s c .pool) (addressIn (b .request)) (countIn (b .request)) (λ i k. unmap-zeros s c a g (addressIn (b .request) + i) (within i k)))
 
   -- a READ of blocks that none names sees what it would have seen before, and so it is where the UNMAP is refused
@@ -177,5 +177,5 @@ module _ (s : Store) (c r : Call) (a : Asks Unmap c) (b : Asks Read r) where
       → step (after step s c) r .seen ≡ step s r .seen
   unmap-keeps-others out =
       after-ways s c (λ t. step t r .seen ≡ step s r .seen)
-      (λ e. let u = good-usable s c e in read-sees (after step s c) s r b (moves-unit Unmap s c a) (usable-stays s c u) u
+      (λ e. let u = good-usable s c e in read-sees (after step s c) s r b (format-after s c) (moves-unit Unmap s c a) (usable-stays s c u) u
       (reads-same (after step s c .pool) (s .pool) (addressIn (b .request)) (countIn (b .request)) (λ i h. unmap-keeps s c a (addressIn (b .request) + i) (out i h)))) refl

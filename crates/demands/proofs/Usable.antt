@@ -1,6 +1,7 @@
 -- A usable store stays usable after every call, and its lists keep their lengths.
 -- Assumes nothing.
 use mathlib.Core.Path.{_≡_, refl, _∙_}
+use mathlib.Core.Bool.{_&&_}
 use mathlib.Core.List.{List}
 use Prim.Native.Nat.{ℕ, zero, suc, _+_, _≤_}
 use lib.Dec.{T}
@@ -9,6 +10,7 @@ use Rattle.fields.proofs.Tests.{and-l, and-r, both}
 use Rattle.answers.specs.declared.Answer.the-variants.{Good, Short}
 use Rattle.answers.specs.Answers.{listLength}
 use Rattle.answers.specs.Order.{first, refuses}
+use Rattle.answers.specs.Sense.{formatOk}
 use Rattle.answers.proofs.OrderLaws.{rows-after}
 use Rattle.pool.specs.Pool.{Pool, writeBlocks, unmapBlocks}
 use Rattle.pool.specs.Valid.{capacityOk, poolOk}
@@ -32,24 +34,30 @@ use Rattle.store.specs.Move.{moveRows, moved}
 use Rattle.store.specs.Alter.{parametersOf, alterRows}
 use Rattle.store.specs.Step.{commandRows, ownRows, commandStore, storeBy, step, answerTo}
 use Rattle.store.proofs.Parts.{Cleared, good-cleared, good-own, call-nexus}
-use Rattle.store.proofs.StoreLaws.{step-ways}
+use Rattle.store.proofs.StoreLaws.{step-ways, format-kept}
 use Rattle.store.proofs.SameLaws.{same-ways}
 use Rattle.store.proofs.MoveLaws.{write-passes, same-passes}
 use Rattle.demands.specs.History.{after}
 
 -- ---- usable, taken apart and put together
 
-pub usable-unit : (s : Store) → T (usable s) → T (unitOk (s .unit))
+pub usable-format : (s : Store) → T (usable s) → T (formatOk (s .format))
 unfolding usable
-usable-unit s u = and-l (unitOk (s .unit)) (poolOk (s .unit .capacity) (s .pool)) u
+usable-format s u = and-l (formatOk (s .format)) _ u
+
+usable-rest : (s : Store) → T (usable s) → T (unitOk (s .unit) && poolOk (s .unit .capacity) (s .pool))
+unfolding usable
+usable-rest s u = and-r (formatOk (s .format)) _ u
+
+pub usable-unit : (s : Store) → T (usable s) → T (unitOk (s .unit))
+usable-unit s u = and-l (unitOk (s .unit)) (poolOk (s .unit .capacity) (s .pool)) (usable-rest s u)
 
 pub usable-pool : (s : Store) → T (usable s) → T (poolOk (s .unit .capacity) (s .pool))
-unfolding usable
-usable-pool s u = and-r (unitOk (s .unit)) (poolOk (s .unit .capacity) (s .pool)) u
+usable-pool s u = and-r (unitOk (s .unit)) (poolOk (s .unit .capacity) (s .pool)) (usable-rest s u)
 
-pub usable-of : (s : Store) → T (unitOk (s .unit)) → T (poolOk (s .unit .capacity) (s .pool)) → T (usable s)
+pub usable-of : (s : Store) → T (formatOk (s .format)) → T (unitOk (s .unit)) → T (poolOk (s .unit .capacity) (s .pool)) → T (usable s)
 unfolding usable
-usable-of s x y = both (unitOk (s .unit)) (poolOk (s .unit .capacity) (s .pool)) x y
+usable-of s f x y = both (formatOk (s .format)) _ f (both (unitOk (s .unit)) (poolOk (s .unit .capacity) (s .pool)) x y)
 
 pub unit-capacity : (u : Unit) → T (unitOk u) → T (capacityOk (u .capacity))
 unfolding unitOk
@@ -127,9 +135,9 @@ command-usable : (k : Command) (q : Request) (s : Store) (c : Call) → T (usabl
 unfolding commandRows commandStore isMaker
 command-usable (Tells t) q s c u n k e = u
 command-usable (Moves m) q s c u n k e =
-    usable-of _ (usable-unit s u) (moved-ok m q (s .unit .capacity) (s .pool) c (usable-pool s u) e)
+    usable-of _ (usable-format s u) (usable-unit s u) (moved-ok m q (s .unit .capacity) (s .pool) c (usable-pool s u) e)
 command-usable (Alters a) q s c u n k e =
-    usable-of _
+    usable-of _ (usable-format s u)
     (unit-of _ (unit-capacity (s .unit) (usable-unit s u)) (altered-ok a q (s .unit .rights) (c .nexus) (c .dataOut) (unit-rights (s .unit) (usable-unit s u)) n k e))
     (usable-pool s u)
 
@@ -142,12 +150,17 @@ done-usable s c e = go (askedOf (c .cdb)) refl (good-own s c e)
 
     go : (x : Asked) → askedOf (c .cdb) ≡ x → first (ownRows x s c) ≡ Good → T (usable (storeBy x s c))
     go nothing a g = p .store
-    go (asks q) a g = command-usable (q .command) q s c (p .store) (call-nexus c (p .call)) (asked-typed (c .cdb) q a (p .fields)) g
+    go (asks q) a g = command-usable (q .command) q s c (p .store) (call-nexus (s .format) c (p .call)) (asked-typed (c .cdb) q a (p .fields)) g
 
 -- a usable store stays usable
 pub usable-stays : (s : Store) (c : Call) → T (usable s) → T (usable (after step s c))
 unfolding after
 usable-stays s c u = step-ways (λ x. T (usable x)) s c (done-usable s c) u
+
+-- and keeps its format
+pub format-after : (s : Store) (c : Call) → after step s c .format ≡ s .format
+unfolding after
+format-after s c = format-kept s c
 
 -- ---- lengths
 

@@ -1,6 +1,6 @@
 -- The useless builds meet demand 3 and fail the cases, each by what it does: every build that refuses everything fails A, every one with a constant
 -- answer E, every one that leaves the state alone H. A build that tests room before the conflict fails demand 3. Assumes nothing.
-use mathlib.Core.Path.{_≡_, refl, sym, ap, _∙_, subst}
+use mathlib.Core.Path.{_≡_, refl, sym, ap, ap₂, _∙_, subst}
 use mathlib.Core.Bool.{Bool, true, false, not, _&&_, cond}
 use mathlib.Core.List.{List, [], _∷_, _++_, map}
 use Prim.Native.Nat.{ℕ}
@@ -17,8 +17,8 @@ use Rattle.store.specs.Store.{Store, Call, Seen, usable}
 use Rattle.demands.specs.History.{Build, after, kept, add, watched, heard}
 use Rattle.store.specs.Step.{step}
 use Rattle.demands.specs.Demands.{Demand2, Demand3}
-use Rattle.demands.specs.Useless.{Refusing, Constant, Leaving, blind, unmoved, constant, refusing, leaving, isWrite, lacksRoom, roomFirst}
-use Rattle.demands.specs.Checker.{Want, good, lays, refusedAt, refused, whole, met, Case, Expect, _gives_, run, passedBy, passed, allPassed}
+use Rattle.demands.specs.Useless.{Refusing, Constant, Leaving, blind, unmoved, constant, refusing, leaving, isWrite, lacksRoom, roomFirst, startOf}
+use Rattle.demands.specs.Checker.{Want, good, lays, refusedWith, pastEndAt, noRoomAt, whole, met, Case, Expect, _gives_, run, passedBy, passed, allPassed}
 use Rattle.demands.specs.Bench.{block, two, made, write-10}
 use Rattle.demands.specs.Cases.{caseOf, caseStill, caseNew, caseA, caseB, caseC, caseD, caseE, caseF, caseG, caseH, caseI, cases, writeH}
 use Rattle.demands.proofs.Computing.{meaning}
@@ -26,25 +26,25 @@ use Rattle.demands.proofs.Comparing.{met-equal}
 
 -- ---- they meet demand 3
 
-module _ (g : Call → Seen) where
-  heard-blind : (s : Store) (cs : List Call) → heard (blind g) s cs ≡ map g (watched (blind g) s cs)
+module _ (g : ℕ → Call → Seen) where
+  heard-blind : (s : Store) (cs : List Call) → heard (blind g) s cs ≡ map (g (s .format)) (watched (blind g) s cs)
   unfolding heard watched blind after add
   heard-blind s [] = refl
   heard-blind s (c ∷ cs) = go (kept s c) (heard-blind s cs)
     where
-      go : (b : Bool) → heard (blind g) s cs ≡ map g (watched (blind g) s cs)
-          → add b (g c) (heard (blind g) s cs) ≡ map g (add b c (watched (blind g) s cs))
-      go true ih = ap (λ (l : List Seen). g c ∷ l) ih
+      go : (b : Bool) → heard (blind g) s cs ≡ map (g (s .format)) (watched (blind g) s cs)
+          → add b (g (s .format) c) (heard (blind g) s cs) ≡ map (g (s .format)) (add b c (watched (blind g) s cs))
+      go true ih = ap (λ (l : List Seen). g (s .format) c ∷ l) ih
       go false ih = ih
 
   blind-still : (s : Store) (c : Call) → after (blind g) s c ≡ s
   unfolding blind after
   blind-still s c = refl
 
-  -- what does not look at the store tells nothing of it
+  -- what looks at nothing of the store but its format tells nothing of it
   pub blind-meets : Demand3 (blind g)
   blind-meets = record {
-    secret = λ s t cs ds u v e w. heard-blind s cs ∙ ap (map g) w ∙ sym (heard-blind t ds);
+    secret = λ s t cs ds u v f e w. heard-blind s cs ∙ ap₂ (λ (x : ℕ) (l : List Call). map (g x) l) f w ∙ sym (heard-blind t ds);
     still = λ s c o h. blind-still s c;
     out-pool = λ s c o. ap (λ (x : Store). x .pool) (blind-still s c);
   }
@@ -76,17 +76,17 @@ module _ (f : Build) (end s : Store) (c : Call) (w : Call → Want) (es : List E
 number-good : (a : Answer) → numberOf a ≡ 0 → a ≡ Good
 unfolding numberOf codesOf
 number-good Good e = refl
-number-good (Refused s) e = absurd (coded (s .refusal) e)
+number-good (Refused x) e = absurd (coded x e)
   where
     coded : (r : Refusal) → codesOf r .number ≡ 0 → ⊥
     coded NotListed e = omega arith
     coded (InvalidField at top n) e = omega arith
-    coded OutOfRange e = omega arith
+    coded (OutOfRange address) e = omega arith
     coded ListLength e = omega arith
     coded (ListField at top n) e = omega arith
     coded NoPlace e = omega arith
     coded OtherType e = omega arith
-    coded NoRoom e = omega arith
+    coded (NoRoom address) e = omega arith
 number-good Conflict e = absurd (omega arith)
 number-good Unusable e = absurd (omega arith)
 number-good Short e = absurd (omega arith)
@@ -119,7 +119,7 @@ module _ (a : Answer) (f : Build) (k : Constant a f) where
   constantly s c n e = subst (λ (b : Answer). numberOf b ≡ n) (k .answers s c) e
 
   pub constant-fails-E : T (not (passed f caseE))
-  unfolding passed passedBy caseE caseNew caseStill caseOf good refused refusedAt lays
+  unfolding passed passedBy caseE caseNew caseStill caseOf good pastEndAt refusedWith lays
   constant-fails-E =
       not-T (passed f caseE)
       (λ t. zero-or-three (numberOf a) (constantly _ _ 0 (shown f _ _ _ _ _ t)) (constantly _ _ 3 (shown f _ _ _ _ _ (rest f _ _ _ _ _ t))))
@@ -128,7 +128,7 @@ module _ (a : Answer) (f : Build) (k : Constant a f) where
       zero-or-three n e d = omega arith
 
   pub constant-fails-H : T (not (passed f caseH))
-  unfolding passed passedBy caseH caseOf good refused refusedAt lays
+  unfolding passed passedBy caseH caseOf good noRoomAt refusedWith lays
   constant-fails-H =
       not-T (passed f caseH)
       (λ t. zero-or-eight (numberOf a) (constantly _ _ 0 (shown f _ _ _ _ _ t)) (constantly _ _ 8 (shown f _ _ _ _ _ (rest f _ _ _ _ _ t))))
@@ -144,7 +144,7 @@ module _ (f : Build) (l : Leaving f) where
   next end s c w es t = subst (λ (x : Store). T (run whole f end x es)) (l .stays s c) (rest f end s c w es t)
 
   pub leaving-fails-H : T (not (passed f caseH))
-  unfolding passed passedBy caseH caseOf good refused refusedAt lays
+  unfolding passed passedBy caseH caseOf good noRoomAt refusedWith lays
   leaving-fails-H = not-T (passed f caseH) go
     where
       eight-or-none : (n : ℕ) → n ≡ 8 → n ≡ 0 → ⊥
@@ -156,8 +156,8 @@ module _ (f : Build) (l : Leaving f) where
           eight-or-none (numberOf (f (caseH .start) writeH .seen .answer)) (shown f _ _ writeH _ _ u)
           (shown f _ _ writeH _ _ (next _ _ _ _ _ (next _ _ _ _ _ (next _ _ _ _ _ u))))
 
--- what is seen is a function of the call alone: it leaves the state alone
-pub blind-fails : (g : Call → Seen) → T (not (passed (blind g) caseH))
+-- what is seen is a function of the format and the call alone: it leaves the state alone
+pub blind-fails : (g : ℕ → Call → Seen) → T (not (passed (blind g) caseH))
 unfolding after
 blind-fails g = leaving-fails-H (blind g) (record { stays = blind-still g })
 
@@ -205,13 +205,13 @@ unfolding roomFirst
 room-first-else s c t = go (eqb (numberOf (step s c .seen .answer)) 10) t
   where
     go : (b : Bool) → T (not b)
-        → cond (b && lacksRoom (askedOf (c .cdb)) (s .pool .owners)) (blind (unmoved noRoom) s c) (step s c) ≡ step s c
+        → cond (b && lacksRoom (askedOf (c .cdb)) (s .pool .owners)) (blind (unmoved (noRoom (startOf (askedOf (c .cdb))))) s c) (step s c) ≡ step s c
     go true t = absurd t
     go false t = refl
 
 -- it fails I, and passes G and H, whose WRITEs lack room too
 pub room-first-cases : T (not (passed roomFirst caseI) && passed roomFirst caseG && passed roomFirst caseH)
-unfolding meaning roomFirst lacksRoom isWrite blind unmoved
+unfolding meaning roomFirst lacksRoom isWrite startOf blind unmoved
 room-first-cases = tt
 
 -- type 6, held by nexus 1, and nexus 3 is shut out: its WRITE has room in the one store, and lacks it in the other
@@ -236,27 +236,31 @@ full-usable : T (usable full)
 unfolding meaning full
 full-usable = tt
 
+same-format : half .format ≡ full .format
+unfolding meaning half full
+same-format = refl
+
 same-unit : half .unit ≡ full .unit
 unfolding meaning half full
 same-unit = refl
 
 same-watched : watched roomFirst half one-write ≡ watched roomFirst full one-write
-unfolding meaning half full one-write roomFirst lacksRoom isWrite blind unmoved
+unfolding meaning half full one-write roomFirst lacksRoom isWrite startOf blind unmoved
 same-watched = refl
 
 -- the conflict, and the room
 heard-half : heard-number (heard roomFirst half one-write) ≡ 10
-unfolding meaning half one-write heard-number roomFirst lacksRoom isWrite blind unmoved
+unfolding meaning half one-write heard-number roomFirst lacksRoom isWrite startOf blind unmoved
 heard-half = refl
 
 heard-full : heard-number (heard roomFirst full one-write) ≡ 8
-unfolding meaning full one-write heard-number roomFirst lacksRoom isWrite blind unmoved
+unfolding meaning full one-write heard-number roomFirst lacksRoom isWrite startOf blind unmoved
 heard-full = refl
 
 pub room-first-fails : Demand3 roomFirst → ⊥
 room-first-fails d =
     ten-or-eight (heard-number (heard roomFirst half one-write)) heard-half
-    (ap heard-number (d .secret half full one-write one-write half-usable full-usable same-unit same-watched) ∙ heard-full)
+    (ap heard-number (d .secret half full one-write one-write half-usable full-usable same-format same-unit same-watched) ∙ heard-full)
   where
     ten-or-eight : (n : ℕ) → n ≡ 10 → n ≡ 8 → ⊥
     ten-or-eight n e d = omega arith

@@ -13,6 +13,7 @@ use Rattle.answers.specs.declared.Answer.the-variants.{Good, Conflict, Short}
 use Rattle.answers.specs.Answers.{outOfRange, noRoom}
 use Rattle.answers.specs.Order.{first}
 use Rattle.answers.proofs.OrderLaws.{row-pass, row-stop, row-end, next-after}
+use Rattle.answers.specs.Sense.{formatOk}
 use Rattle.pool.specs.Pool.{free, unmapped, roomFor}
 use Rattle.pool.specs.Valid.{capacityOk, slotsOk}
 use Rattle.descriptors.specs.Descriptors.{considered, someFails}
@@ -32,14 +33,14 @@ use Rattle.store.proofs.StoreLaws.{step-answer}
 use Rattle.store.proofs.MoveLaws.{read-passes, write-passes, unmap-passes}
 use Rattle.demands.specs.History.{after}
 use Rattle.demands.specs.Contents.{Asks, addressIn, IsGood, byItself, Reaches, Inside, Room, SameRange}
-use Rattle.demands.proofs.Usable.{usable-stays}
+use Rattle.demands.proofs.Usable.{usable-stays, format-after}
 use Rattle.demands.proofs.Fresh.{fresh-usable}
 use Rattle.demands.proofs.Moving.{good-usable, moves-unit, asks-guard, asks-rows}
 use Rattle.demands.proofs.Transfers.{write-inside}
 
 -- ---- up to a command's own tests
 
-module _ (m : Move) (s : Store) (c : Call) (a : Asks m c) (u : T (usable s)) (g : byItself c ≡ Good) where
+module _ (m : Move) (s : Store) (c : Call) (a : Asks m c) (u : T (usable s)) (g : byItself (s .format) c ≡ Good) where
   right : Cleared s c
   unfolding byItself
   right = itself-cleared s c u g
@@ -69,7 +70,7 @@ decided-by e h = (λ g. h .0 (sym e ∙ g), λ x. e ∙ h .1 x)
 
 module _ (s : Store) (c : Call) (a : Asks Read c) (r : Reaches s a) where
   -- "3": the range ends past the capacity
-  pub read-past-end : s .unit .capacity < addressIn (a .request) + countIn (a .request) → step s c .seen .answer ≡ outOfRange
+  pub read-past-end : s .unit .capacity < addressIn (a .request) + countIn (a .request) → step s c .seen .answer ≡ outOfRange (addressIn (a .request))
   unfolding moveRows readRows pastEnd
   read-past-end h = rows-answer Read s c a r ∙ row-stop (outOfRange _) _ _ (lt-ltb _ _ h)
 
@@ -86,7 +87,7 @@ module _ (s : Store) (c : Call) (a : Asks Read c) (r : Reaches s a) where
 -- ---- WRITE
 
 module _ (s : Store) (c : Call) (a : Asks Write c) (r : Reaches s a) where
-  pub write-past-end : s .unit .capacity < addressIn (a .request) + countIn (a .request) → step s c .seen .answer ≡ outOfRange
+  pub write-past-end : s .unit .capacity < addressIn (a .request) + countIn (a .request) → step s c .seen .answer ≡ outOfRange (addressIn (a .request))
   unfolding moveRows writeRows pastEnd
   write-past-end h = rows-answer Write s c a r ∙ row-stop (outOfRange _) _ _ (lt-ltb _ _ h)
 
@@ -96,7 +97,7 @@ module _ (s : Store) (c : Call) (a : Asks Write c) (r : Reaches s a) where
 
   -- "8": more unmapped blocks than free slots
   pub write-no-room : Inside s (a .request) → 512 * countIn (a .request) ≤ length (c .dataOut)
-      → free (s .pool .owners) < unmapped (s .pool .owners) (addressIn (a .request)) (countIn (a .request)) → step s c .seen .answer ≡ noRoom
+      → free (s .pool .owners) < unmapped (s .pool .owners) (addressIn (a .request)) (countIn (a .request)) → step s c .seen .answer ≡ noRoom (addressIn (a .request))
   unfolding moveRows writeRows pastEnd roomFor
   write-no-room h l n =
       rows-answer Write s c a r ∙ row-pass (outOfRange _) _ _ (le-ltb _ _ h) ∙ row-pass Short _ _ (le-ltb _ _ l)
@@ -120,12 +121,12 @@ unmap-good s c a r = decided-by (rows-answer Unmap s c a r) (unmap-passes (s .un
 -- ---- a READ of what a WRITE has written
 
 -- it is GOOD for every nexus that may read, with room for the data
-pub read-follows : (s : Store) (w r : Call) (a : Asks Write w) (b : Asks Read r) → SameRange (a .request) (b .request) → IsGood s w → byItself r ≡ Good
+pub read-follows : (s : Store) (w r : Call) (a : Asks Write w) (b : Asks Read r) → SameRange (a .request) (b .request) → IsGood s w → byItself (s .format) r ≡ Good
     → conflict (s .unit .rights) (r .nexus) (Moves Read) ≡ false → 512 * countIn (b .request) ≤ length (r .dataIn) → IsGood (after step s w) r
 read-follows s w r a b e g t f l =
     let still : after step s w .unit ≡ s .unit = moves-unit Write s w a in
     read-good (after step s w) r b
-    (record { store = usable-stays s w (good-usable s w g); call = t; free = ap (λ (u : Unit). conflict (u .rights) (r .nexus) (Moves Read)) still ∙ f })
+    (record { store = usable-stays s w (good-usable s w g); call = ap (λ (x : ℕ). byItself x r) (format-after s w) ∙ t; free = ap (λ (u : Unit). conflict (u .rights) (r .nexus) (Moves Read)) still ∙ f })
     .1 (
       subst (λ (u : Unit). addressIn (b .request) + countIn (b .request) ≤ u .capacity) (sym still) (rw (← e .address, ← e .count) (write-inside s w a g)),
       l,
@@ -133,9 +134,9 @@ read-follows s w r a b e g t f l =
 
 -- ---- a READ of a fresh store
 
-pub fresh-read-good : (capacity slots : ℕ) (medium : List ℕ) (r : Call) → T (capacityOk capacity) → T (slotsOk slots) → length medium ≡ 512 * slots
-    → (a : Asks Read r) → byItself r ≡ Good → addressIn (a .request) + countIn (a .request) ≤ capacity → 512 * countIn (a .request) ≤ length (r .dataIn)
-    → IsGood (freshStore capacity slots medium) r
+pub fresh-read-good : (capacity format slots : ℕ) (medium : List ℕ) (r : Call) → T (capacityOk capacity) → T (formatOk format) → T (slotsOk slots) → length medium ≡ 512 * slots
+    → (a : Asks Read r) → byItself format r ≡ Good → addressIn (a .request) + countIn (a .request) ≤ capacity → 512 * countIn (a .request) ≤ length (r .dataIn)
+    → IsGood (freshStore capacity format slots medium) r
 unfolding freshStore freshUnit noRights conflict columnOf columnUnder holds oneHolds allHold isOneOf says
-fresh-read-good capacity slots medium r x y e a t h l =
-    read-good (freshStore capacity slots medium) r a (record { store = fresh-usable capacity slots medium x y e; call = t; free = refl }) .1 (h, l)
+fresh-read-good capacity format slots medium r x f y e a t h l =
+    read-good (freshStore capacity format slots medium) r a (record { store = fresh-usable capacity format slots medium x f y e; call = t; free = refl }) .1 (h, l)

@@ -127,7 +127,7 @@ module _ (m : Move) (t : T (isTransfer m)) (s : Store) (c d : Call) (a : Asks m 
   unfolding protectionIn notZero numberIn
   flags-same = ap not (e .flags)
 
-  call-same : callRows c ≡ callRows d
+  call-same : callRows (s .format) c ≡ callRows (s .format) d
   unfolding callRows
   call-same =
       let p = not-empty a (e .first-long) in
@@ -160,7 +160,7 @@ module _ (m : Move) (t : T (isTransfer m)) (s : Store) (c d : Call) (a : Asks m 
       rw (parts s c, parts s d, call-same, code-same, length-same, guard-same, own-same)
       (behind _ _ _ (behind _ _ _ (behind _ _ _ (behind _ _ _ (fields-alike _)))))
 
-  buffers-same : (x : Answer) (bs : List ℕ) → seenOf x bs c ≡ seenOf x bs d
+  buffers-same : (x : Answer) (bs : List ℕ) → seenOf (s .format) x bs c ≡ seenOf (s .format) x bs d
   unfolding seenOf
   buffers-same x bs = rw (e .dataIn, e .sense)
 
@@ -168,7 +168,7 @@ module _ (m : Move) (t : T (isTransfer m)) (s : Store) (c d : Call) (a : Asks m 
     seen-same : step s c .seen ≡ step s d .seen
     seen-same =
         step-seen s c
-        ∙ ap₂ (λ (x : Answer) (bs : List ℕ). seenOf x bs c) same
+        ∙ ap₂ (λ (x : Answer) (bs : List ℕ). seenOf (s .format) x bs c) same
         (asks-data m c a s ∙ fetched-same (a .request) (b .request) (e .range) c d (e .dataIn) (e .dataOut) m (s .unit .capacity) (s .pool) t ∙ sym (asks-data m d b s))
         ∙ buffers-same _ _
         ∙ sym (step-seen s d)

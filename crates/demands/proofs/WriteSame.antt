@@ -155,7 +155,7 @@ same-good s c a r =
 
 -- ---- two calls on one store, both right by themselves
 
-module _ (s : Store) (u : T (usable s)) (m n : Move) (c d : Call) (a : Asks m c) (b : Asks n d) (g : byItself c ≡ Good) (h : byItself d ≡ Good)
+module _ (s : Store) (u : T (usable s)) (m n : Move) (c d : Call) (a : Asks m c) (b : Asks n d) (g : byItself (s .format) c ≡ Good) (h : byItself (s .format) d ≡ Good)
     (stop : conflict (s .unit .rights) (c .nexus) (Moves m) ≡ conflict (s .unit .rights) (d .nexus) (Moves n))
     (rows : first (moveRows m (a .request) (s .unit .capacity) (s .pool) c) ≡ first (moveRows n (b .request) (s .unit .capacity) (s .pool) d)) where
   pub answered-alike : step s c .seen .answer ≡ step s d .seen .answer
@@ -173,7 +173,7 @@ module _ (s : Store) (u : T (usable s)) (m n : Move) (c d : Call) (a : Asks m c)
 
 -- ---- UNMAP with a block that is not zeros
 
-module _ (s : Store) (u : T (usable s)) (c d : Call) (a : Asks WriteSame c) (b : Asks WriteSame d) (e : SameButUnmap a b)
+module _ (s : Store) (u : T (usable s)) (c d : Call) (a : Asks WriteSame c) (b : Asks WriteSame d) (e : SameButUnmap (s .format) a b)
     (there : Sends (a .request) c) (other : sent (a .request) c ≢ zeros 512) where
   same-sent : sent (a .request) c ≡ sent (b .request) d
   unfolding sent
@@ -199,7 +199,7 @@ module _ (s : Store) (u : T (usable s)) (c d : Call) (a : Asks WriteSame c) (b :
   answers : step s c .seen .answer ≡ step s d .seen .answer
   answers = answered-alike s u WriteSame WriteSame c d a b (e .first-right) (e .second-right) stops-alike (ap first rows-alike)
 
-  buffers : (x : Answer) → seenOf x [] c ≡ seenOf x [] d
+  buffers : (x : Answer) → seenOf (s .format) x [] c ≡ seenOf (s .format) x [] d
   unfolding seenOf
   buffers x = rw (e .dataIn, e .sense)
 
@@ -207,9 +207,9 @@ module _ (s : Store) (u : T (usable s)) (c d : Call) (a : Asks WriteSame c) (b :
   unfolding fetched
   sights =
       step-seen s c
-      ∙ ap₂ (λ (x : Answer) (bs : List ℕ). seenOf x bs c) (sym (step-answer s c) ∙ answers ∙ step-answer s d) (asks-data WriteSame c a s)
+      ∙ ap₂ (λ (x : Answer) (bs : List ℕ). seenOf (s .format) x bs c) (sym (step-answer s c) ∙ answers ∙ step-answer s d) (asks-data WriteSame c a s)
       ∙ buffers (answerTo s d)
-      ∙ sym (ap (λ (bs : List ℕ). seenOf (answerTo s d) bs d) (asks-data WriteSame d b s))
+      ∙ sym (ap (λ (bs : List ℕ). seenOf (s .format) (answerTo s d) bs d) (asks-data WriteSame d b s))
       ∙ sym (step-seen s d)
 
   unmap-or-not : step s c ≡ step s d
@@ -220,7 +220,7 @@ module _ (s : Store) (u : T (usable s)) (c d : Call) (a : Asks WriteSame c) (b :
 
 -- ---- a WRITE of the block as many times over
 
-module _ (s : Store) (u : T (usable s)) (c w : Call) (a : Asks WriteSame c) (b : Asks Write w) (e : Repeats a b)
+module _ (s : Store) (u : T (usable s)) (c w : Call) (a : Asks WriteSame c) (b : Asks Write w) (e : Repeats (s .format) a b)
     (there : Sends (a .request) c) (writes : Writes (a .request) c) where
   long : 512 * countIn (b .request) ≤ length (w .dataOut)
   unfolding isNdob hasNoData

@@ -51,8 +51,8 @@ shown-usable : T (usable shown)
 unfolding meaning shown
 shown-usable = tt
 
-read-right : byItself reads ≡ Good
-unfolding meaning byItself transferCdb cdb10 showing reads
+read-right : byItself (shown .format) reads ≡ Good
+unfolding meaning shown byItself transferCdb cdb10 showing reads
 read-right = refl
 
 harsh-stops : harsh shown reads .seen .answer ≡ Conflict
@@ -69,8 +69,8 @@ write-asked : Asks Write writes
 unfolding meaning transferCdb cdb10 showing writes
 write-asked = record { request = _; is = refl; command = refl }
 
-write-right : byItself writes ≡ Good
-unfolding meaning byItself transferCdb cdb10 showing writes
+write-right : byItself (shown .format) writes ≡ Good
+unfolding meaning shown byItself transferCdb cdb10 showing writes
 write-right = refl
 
 lax-passes : lax shown writes .seen .answer ≡ Good
@@ -99,7 +99,7 @@ bare-tells : byte 14 (bare shown asksCapacity .seen .dataIn) ≡ 0
 unfolding meaning shown showing asksCapacity bare laid
 bare-tells = refl
 
-law-tells : byte 14 (seenOf Good (take (allocationIn (bare-asked .request)) (capacity16Data (shown .unit .capacity))) asksCapacity .dataIn) ≡ 0xC0
+law-tells : byte 14 (seenOf (shown .format) Good (take (allocationIn (bare-asked .request)) (capacity16Data (shown .unit .capacity))) asksCapacity .dataIn) ≡ 0xC0
 unfolding meaning shown showing asksCapacity bare-asked
 law-tells = refl
 
@@ -165,7 +165,7 @@ pub open-status-fails : Demand3 openStatus → ⊥
 unfolding guarded
 open-status-fails d =
     other _ two-runs
-    (ap heard-length (d .secret (guarded 1) (guarded 2) (asksStatus ∷ []) (asksStatus ∷ []) first-usable second-usable refl status-watched) ∙ three-runs)
+    (ap heard-length (d .secret (guarded 1) (guarded 2) (asksStatus ∷ []) (asksStatus ∷ []) first-usable second-usable refl refl status-watched) ∙ three-runs)
   where
     other : (n : ℕ) → n ≡ 40 → n ≡ 56 → ⊥
     other n e d = omega arith

@@ -9,6 +9,7 @@ use lib.Dec.{T, lit≤}
 use lib.ListN.{length}
 use Rattle.fields.specs.Field.{field}
 use Rattle.answers.specs.Answers.{invalidField, outOfRange, codesOf, numberOf}
+use Rattle.answers.specs.Sense.{fixed, senseBytes}
 use Rattle.rights.specs.Rights.{isOneOf}
 use Rattle.forms.specs.declared.Move.the-variants.{Read}
 use Rattle.forms.specs.Forms.{countIn, pageBits}
@@ -34,7 +35,7 @@ module _ (f : Build) (code n : ℕ) where
   shown-read good whole =
       record { store = shown; call = asksFor code n; asks = asked-page code n; good = good; returned = refl; whole = whole }
 
-shown-heard : (c : Call) → c .nexus ≤ 15 → 18 ≤ length (c .sense) → Heard shown c
+shown-heard : (c : Call) → c .nexus ≤ 15 → senseBytes fixed ≤ length (c .sense) → Heard shown c
 unfolding meaning shown
 shown-heard c h k = record { store = tt; nexus = h; sense = k }
 
@@ -69,7 +70,7 @@ unfolding meaning transferCdb cdb10 showing reads128
 read-unprotected = refl
 
 -- its count is not refused: the answer is that there are not so many blocks
-count-passes : understated shown reads128 .seen .answer ≡ outOfRange
+count-passes : understated shown reads128 .seen .answer ≡ outOfRange 0
 unfolding meaning shown transferCdb cdb10 showing reads128 isFor understated
 count-passes = refl
 

@@ -13,7 +13,8 @@ use Rattle.answers.specs.declared.Answer.the-variants.{Good}
 use Rattle.answers.specs.Answers.{codesOf, numberOf, invalidField, listField, notListed}
 use Rattle.rights.specs.Actions.{flagsByte}
 use Rattle.forms.specs.Forms.{kindBits}
-use Rattle.demands.specs.Pointed.{commandData, AreBytes, withCdb, Pointed}
+use Rattle.demands.specs.Pointed.{AreBytes, withCdb, Pointed}
+use Rattle.demands.specs.SenseRead.{responseCode, isDescriptor, specific, commandData}
 use Rattle.demands.specs.WrongBuilds.{shown, showing}
 use Rattle.demands.specs.WrongPointers.{answers, typeForScope, sensed, listAsCdb, leftPlace, reserveCdb, reserves, registers, unknown}
 use Rattle.demands.proofs.Computing.{meaning}
@@ -76,7 +77,7 @@ unfolding meaning shown showing registers answers sensed listAsCdb
 flag-named = refl
 
 cdb-told : commandData (listAsCdb shown registers .seen .sense) ≡ true
-unfolding meaning shown showing registers answers sensed listAsCdb commandData
+unfolding meaning shown showing registers answers sensed listAsCdb responseCode isDescriptor specific commandData
 cdb-told = refl
 
 pub list-as-cdb-fails : Pointed listAsCdb → ⊥
@@ -88,8 +89,8 @@ code-refused : leftPlace shown unknown .seen .answer ≡ notListed
 unfolding meaning shown showing unknown answers sensed leftPlace
 code-refused = refl
 
-place-left : field 15 3 (leftPlace shown unknown .seen .sense) ≡ 0xC80001
-unfolding meaning shown showing unknown answers sensed leftPlace
+place-left : field 0 3 (specific (leftPlace shown unknown .seen .sense)) ≡ 0xC80001
+unfolding meaning shown showing unknown answers sensed leftPlace responseCode isDescriptor specific
 place-left = refl
 
 code-number : numberOf (leftPlace shown unknown .seen .answer) ≡ 1

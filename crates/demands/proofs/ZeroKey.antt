@@ -44,8 +44,8 @@ use Rattle.demands.specs.Generation.{generation, serviceKey}
 use Rattle.demands.specs.Contents.{AsksFor, Asks, IsGood, byItself}
 use Rattle.demands.specs.Reservations.{keyIn, isRegistered, isHolder, typeIn, senderOf, outsider, conflictTable, says, stopped}
 use Rattle.demands.specs.ZeroKey.{senderKey, Sends, gaveKey, zeroAnswer, oneKey, oneHolder, ZeroKey, formerRows, former, RulesAgree}
-use Rattle.demands.proofs.Usable.{usable-stays}
-use Rattle.demands.proofs.Moving.{good-usable}
+use Rattle.demands.proofs.Usable.{usable-stays, format-after}
+use Rattle.demands.proofs.Moving.{good-usable, good-any}
 use Rattle.demands.proofs.Telling.{told-seen}
 use Rattle.demands.proofs.Conflicts.{conflict-table}
 use Rattle.demands.proofs.Altering.{altered-rows, altered-sender}
@@ -53,7 +53,7 @@ use Rattle.demands.proofs.Reservations.{taken, zero-over, places-distin
 
 -- ---- a reservation-out call that comes as far as its keys
 
-module _ (a : Action) (s : Store) (c : Call) (w : Sends a c) (u : T (usable s)) where
+module _ (a : Action) (s : Store) (c : Call) (w : Sends (s .format) a c) (u : T (usable s)) where
   abbrev parameters : Parameters
   parameters = parametersOf (w .asked .request) (c .dataOut)
 
@@ -76,7 +76,7 @@ module _ (a : Action) (s : Store) (c : Call) (w : Sends a c) (u : T (usable s)) 
 
 -- ---- the answer
 
-module _ (s : Store) (c : Call) (w : Sends Preempt c) (z : serviceKey c ≡ 0) (u : T (usable s)) where
+module _ (s : Store) (c : Call) (w : Sends (s .format) Preempt c) (z : serviceKey c ≡ 0) (u : T (usable s)) where
   pub zero-answer : step s c .seen .answer ≡ zeroAnswer s c
   unfolding zeroAnswer gaveKey senderKey serviceKey isRegistered keyIn typeIn parametersOf numberIn keyWrong stranger
   zero-answer =
@@ -135,25 +135,25 @@ module _ (s : Store) (c : Call) (w : AsksFor (Alters Preempt) c) (e : IsGood s c
       zero-registrations n ∙ by-equal n (c .nexus) (λ b. cond b (keyIn s n) 0 ≡ keyIn s n) (λ _. refl) (λ d. sym (none n d))
 
   pub zero-keys : (d : Call) (a : AsksFor (Tells Keys) d) → IsGood (after step s c) d
-      → step (after step s c) d .seen ≡ seenOf Good (take (allocationIn (a .request)) (oneKey (generation (after step s c)) (keyIn s (c .nexus)))) d
+      → step (after step s c) d .seen ≡ seenOf (s .format) Good (take (allocationIn (a .request)) (oneKey (generation (after step s c)) (keyIn s (c .nexus)))) d
   unfolding told oneKey generation keyIn
   zero-keys d a g =
-      told-seen Keys (after step s c) d a g
-      ∙ ap (λ (r : Rights). seenOf Good (take (allocationIn (a .request)) (keysData r)) d) (taken s c w e is-zero)
-      ∙ ap (λ (bs : List ℕ). seenOf Good (take (allocationIn (a .request)) bs) d)
+      told-seen Keys (after step s c) d a g ∙ good-any (after step s c .format) (s .format) _ d
+      ∙ ap (λ (r : Rights). seenOf (s .format) Good (take (allocationIn (a .request)) (keysData r)) d) (taken s c w e is-zero)
+      ∙ ap (λ (bs : List ℕ). seenOf (s .format) Good (take (allocationIn (a .request)) bs) d)
       (taken-keys (s .unit .rights) (c .nexus) (w .request .kind) (places-distinct s c w e) sender-there)
-      ∙ ap (λ (r : Rights). seenOf Good (take (allocationIn (a .request)) (oneKey (r .generation) (keyOf (c .nexus) (s .unit .rights .places)))) d) (sym (taken s c w e is-zero))
+      ∙ ap (λ (r : Rights). seenOf (s .format) Good (take (allocationIn (a .request)) (oneKey (r .generation) (keyOf (c .nexus) (s .unit .rights .places)))) d) (sym (taken s c w e is-zero))
 
   pub zero-reservation : (d : Call) (a : AsksFor (Tells Reservation) d) → IsGood (after step s c) d
       → step (after step s c) d .seen
-      ≡ seenOf Good (take (allocationIn (a .request)) (oneHolder (generation (after step s c)) (keyIn s (c .nexus)) (w .request .kind))) d
+      ≡ seenOf (s .format) Good (take (allocationIn (a .request)) (oneHolder (generation (after step s c)) (keyIn s (c .nexus)) (w .request .kind))) d
   unfolding told oneHolder generation keyIn
   zero-reservation d a g =
-      told-seen Reservation (after step s c) d a g
-      ∙ ap (λ (r : Rights). seenOf Good (take (allocationIn (a .request)) (reservationData r)) d) (taken s c w e is-zero)
-      ∙ ap (λ (bs : List ℕ). seenOf Good (take (allocationIn (a .request)) bs) d)
+      told-seen Reservation (after step s c) d a g ∙ good-any (after step s c .format) (s .format) _ d
+      ∙ ap (λ (r : Rights). seenOf (s .format) Good (take (allocationIn (a .request)) (reservationData r)) d) (taken s c w e is-zero)
+      ∙ ap (λ (bs : List ℕ). seenOf (s .format) Good (take (allocationIn (a .request)) bs) d)
       (taken-reservation (s .unit .rights) (c .nexus) (w .request .kind) (named-type s c w e))
-      ∙ ap (λ (r : Rights). seenOf Good (take (allocationIn (a .request)) (oneHolder (r .generation) (keyOf (c .nexus) (s .unit .rights .places)) (w .request .kind))) d)
+      ∙ ap (λ (r : Rights). seenOf (s .format) Good (take (allocationIn (a .request)) (oneHolder (r .generation) (keyOf (c .nexus) (s .unit .rights .places)) (w .request .kind))) d)
       (sym (taken s c w e is-zero))
 
   -- whoever is not the sender is an outsider
@@ -161,13 +161,13 @@ module _ (s : Store) (c : Call) (w : AsksFor (Alters Preempt) c) (e : IsGood s c
   unfolding senderOf isHolder isRegistered
   outside n d = rw (zero-holders n, left-registered n, ne-eqb n (c .nexus) d)
 
-  pub zero-others : (m : Move) (d : Call) → Asks m d → byItself d ≡ Good → d .nexus ≢ c .nexus
+  pub zero-others : (m : Move) (d : Call) → Asks m d → byItself (s .format) d ≡ Good → d .nexus ≢ c .nexus
       → step (after step s c) d .seen .answer ≡ Conflict ↔ T (says conflictTable (w .request .kind) outsider m)
   unfolding stopped
   zero-others m d a g o =
       subst (λ (b : Bool). step (after step s c) d .seen .answer ≡ Conflict ↔ T b)
       (ap₂ (λ (k : ℕ) (x : _). says conflictTable k x m) zero-type (outside (d .nexus) o))
-      (conflict-table m (after step s c) d a (usable-stays s c (good-usable s c e)) g)
+      (conflict-table m (after step s c) d a (usable-stays s c (good-usable s c e)) (ap (λ (x : ℕ). byItself x d) (format-after s c) ∙ g))
 
 pub zero-key : ZeroKey step
 zero-key = record {

@@ -9,6 +9,7 @@ use Prim.Native.Nat.{ℕ}
 use lib.Dec.{T}
 use lib.ListN.{length, drop}
 use Rattle.answers.specs.Answers.{numberOf}
+use Rattle.answers.specs.Sense.{formatOk}
 use Rattle.pool.specs.Valid.{capacityOk, slotsOk}
 use Rattle.rights.specs.Rights.{isOneOf}
 use Rattle.store.specs.declared.Unit.{Unit}
@@ -18,6 +19,7 @@ use Rattle.store.specs.Step.{step}
 use Rattle.ridge.specs.Interface.{Left, executed, FreshLeft, freshened}
 use Rattle.demands.specs.History.{Event, call, Machine, machine, isOut, isShutOut, afterAll, seenAll}
 use Rattle.demands.specs.Contents.{plain}
+use Rattle.demands.specs.SenseRead.{senseLong}
 use Rattle.demands.specs.Demands.{Secrecy}
 
 -- ---- the machine that a C program has
@@ -32,17 +34,18 @@ pub record Told : Type 0 where
 unfoldable pub toldBy : Left → Told
 toldBy x = record { answer = x .answer; returned = x .returned; dataIn = x .dataIn; sense = x .sense }
 
--- the store that a call leaves: the next one is made on it
-unfoldable pub storeIn : Left → Store
-storeIn x = record { unit = x .unit; pool = record { owners = x .owners; medium = x .medium } }
+-- the store that a call leaves, of the format that it was lent with: the next one is made on it
+unfoldable pub storeIn : ℕ → Left → Store
+storeIn format x = record { format = format; unit = x .unit; pool = record { owners = x .owners; medium = x .medium } }
 
 unfoldable pub onward : Store → Event → Store
-onward s (call c) = storeIn (executed s c)
+onward s (call c) = storeIn (s .format) (executed s c)
 
 -- a C program: its states are what it lends
 abbrev pub program : Machine
 program = record {
   State = Store;
+  format = λ s. s .format;
   unit = λ s. s .unit;
   usable = usable;
   Sight = Told;
@@ -50,9 +53,9 @@ program = record {
   next = onward;
 }
 
--- the store that `ridge_fresh` begins, with the medium that is lent from then on
-unfoldable pub begun : FreshLeft → List ℕ → Store
-begun x medium = record { unit = x .unit; pool = record { owners = x .owners; medium = medium } }
+-- the store that `ridge_fresh` begins, with the format that it was given and the medium that is lent from then on
+unfoldable pub begun : ℕ → FreshLeft → List ℕ → Store
+begun format x medium = record { format = format; unit = x .unit; pool = record { owners = x .owners; medium = medium } }
 
 -- what is seen of a step, with 01's number for the answer
 unfoldable pub toldOf : Seen → Told
@@ -62,16 +65,19 @@ toldOf x = record { answer = numberOf (x .answer); returned = x .returned; dataI
 
 pub record Faithful : Type 0 where
   -- what a call leaves is the store after the step, and what is told is what is seen of it
-  pub store : (s : Store) (c : Call) → storeIn (executed s c) ≡ step s c .store
+  pub store : (s : Store) (c : Call) → storeIn (s .format) (executed s c) ≡ step s c .store
   pub told : (s : Store) (c : Call) → toldBy (executed s c) ≡ toldOf (step s c .seen)
   -- and so it is over any history
   pub stores : (s : Store) (es : List Event) → afterAll program s es ≡ afterAll (machine step) s es
   pub sights : (s : Store) (es : List Event) → seenAll program s es ≡ map toldOf (seenAll (machine step) s es)
   -- a history may begin with `ridge_fresh`: within the bounds it answers 0, and what it leaves is a fresh store, whatever lay in the record before
-  pub fresh-answer : (capacity : ℕ) (u : Unit) (owners : List ℕ) → T (capacityOk capacity) → T (slotsOk (length owners))
-      → freshened capacity u owners .answer ≡ 0
-  pub fresh-store : (capacity : ℕ) (u : Unit) (owners medium : List ℕ) → T (capacityOk capacity) → T (slotsOk (length owners))
-      → begun (freshened capacity u owners) medium ≡ freshStore capacity (length owners) medium
+  pub fresh-answer : (capacity format : ℕ) (u : Unit) (owners : List ℕ) → T (capacityOk capacity) → T (formatOk format) → T (slotsOk (length owners))
+      → freshened capacity format u owners .answer ≡ 0
+  pub fresh-store : (capacity format : ℕ) (u : Unit) (owners medium : List ℕ) → T (capacityOk capacity) → T (formatOk format) → T (slotsOk (length owners))
+      → begun format (freshened capacity format u owners) medium ≡ freshStore capacity format (length owners) medium
+  -- a format that is none gives 11, whatever else is given, and leaves the record and the owners
+  pub fresh-refused : (capacity format : ℕ) (u : Unit) (owners : List ℕ) → T (not (formatOk format))
+      → (freshened capacity format u owners .answer ≡ 11) × (freshened capacity format u owners .unit ≡ u) × (freshened capacity format u owners .owners ≡ owners)
 
 -- ---- demand 1
 
@@ -90,9 +96,10 @@ pub record Demand1AtC : Type 0 where
   pub refusal-keeps : (s : Store) (c : Call) → executed s c .answer ≢ 0 → Kept s c (executed s c)
   -- a store that can be used can be used for ever
   pub usable-ever : (s : Store) (es : List Event) → T (usable s) → T (usable (afterAll program s es))
-  -- "Otherwise sense is untouched, as are sense bytes past 18 always."
+  -- "Otherwise sense is untouched", as it is always past what the format writes, which in both formats byte 7 tells
   pub sense-kept : (s : Store) (c : Call) → T (isOneOf (executed s c .answer) (0 ∷ 10 ∷ 11 ∷ 12 ∷ [])) → executed s c .sense ≡ c .sense
-  pub sense-past : (s : Store) (c : Call) → drop 18 (executed s c .sense) ≡ drop 18 (c .sense)
+  pub sense-past : (s : Store) (c : Call) → T (isOneOf (executed s c .answer) (1 ∷ 2 ∷ 3 ∷ 4 ∷ 5 ∷ 6 ∷ 7 ∷ 8 ∷ []))
+      → drop (senseLong (executed s c .sense)) (executed s c .sense) ≡ drop (senseLong (executed s c .sense)) (c .sense)
   -- "Data-in is written only on 0, and only its first returned bytes."
   pub data-past : (s : Store) (c : Call) → drop (executed s c .returned) (executed s c .dataIn) ≡ drop (executed s c .returned) (c .dataIn)
   -- what is lent keeps its length
@@ -107,6 +114,6 @@ pub record Demand3AtC : Type 0 where
   -- over any two histories of C calls: what is told to those who are shut out is a function of the record and of the calls that are watched
   pub secrecy : Secrecy program plain
   -- a call by one who is shut out changes nothing that is stored, unless it is a reservation-out call
-  pub still : (s : Store) (c : Call) → T (not (isOut c)) → T (isShutOut s c) → storeIn (executed s c) ≡ s
+  pub still : (s : Store) (c : Call) → T (not (isOut c)) → T (isShutOut s c) → storeIn (s .format) (executed s c) ≡ s
   -- which changes no block and no mapping
-  pub out-pool : (s : Store) (c : Call) → T (isOut c) → storeIn (executed s c) .pool ≡ s .pool
+  pub out-pool : (s : Store) (c : Call) → T (isOut c) → storeIn (s .format) (executed s c) .pool ≡ s .pool

@@ -5,6 +5,7 @@ use Prim.Native.Nat.{ℕ, _+_, _-_}
 use lib.ListN.{length, replicate}
 use Rattle.fields.specs.Bytes.{zeros}
 use Rattle.fields.specs.Field.{bytes}
+use Rattle.answers.specs.Sense.{fixed}
 use Rattle.rights.specs.declared.Place.{Place}
 use Rattle.rights.specs.Places.{unused}
 use Rattle.store.specs.Store.{Store, Call}
@@ -21,7 +22,7 @@ unfoldable pub before : List ℕ
 before = block 0x10 ++ block 0x20
 
 unfoldable pub new : ℕ → Store
-new capacity = freshStore capacity 2 before
+new capacity = freshStore capacity fixed 2 before
 
 unfoldable pub at : ℕ → ℕ → Place
 at n k = record { nexus = n; key = k }
@@ -40,6 +41,7 @@ eight = at 1 0x11 ∷ at 2 0x22 ∷ at 3 0x33 ∷ at 4 0x44 ∷ at 5 0x55 ∷ at
 -- capacity 8, with these owners and bytes of the slots, registrations, type, holder and generation
 unfoldable pub made-of : List ℕ → List ℕ → List Place → ℕ → ℕ → ℕ → Store
 made-of owners medium places kind holder generation = record {
+  format = fixed;
   unit = record { capacity = 8; rights = record { places = places; kind = kind; holder = holder; generation = generation } };
   pool = record { owners = owners; medium = medium };
 }

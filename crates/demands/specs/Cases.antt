@@ -5,7 +5,7 @@ use Prim.Native.Nat.{ℕ, _+_, _-_, _^_}
 use Rattle.fields.specs.Bytes.{zeros}
 use Rattle.fields.specs.Field.{bytes}
 use Rattle.store.specs.Store.{Store, Call}
-use Rattle.demands.specs.Checker.{good, refused, conflicts, Expect, Case, _gives_}
+use Rattle.demands.specs.Checker.{good, refused, pastEndAt, noRoomAt, conflicts, Expect, Case, _gives_}
 use Rattle.demands.specs.Bench.{block, new, at, places, two, made, made-of, capacity-10, capacity-16, read-10, read-16, write-10, write-16, unmap-1, out, in-call}
 
 unfoldable pub caseOf : Store → List Expect → Store → Case
@@ -31,7 +31,7 @@ caseC = caseNew (2 ^ 32 + 1)
     (capacity-10 0 gives good (bytes 4 0xFFFF_FFFF ++ bytes 4 0x0000_0200)
     ∷ capacity-16 0 gives good (bytes 8 0x0000_0001_0000_0000 ++ (bytes 4 0x0000_0200 ++ (0 ∷ 0 ∷ 0xC0 ∷ zeros 17))) ∷ [])
 
--- slip 1: the sum does not wrap, in READ, and besides in WRITE and UNMAP
+-- slip 1: the sum does not wrap, in READ, and besides in WRITE and UNMAP; the address has no room in fixed format, and no part of it is shown
 unfoldable pub caseD : Case
 caseD = caseNew (2 ^ 40)
     (read-16 0 0xFFFF_FFFF_FFFF_FFFF 1 gives refused 3 0x05 0x21 0x00
@@ -39,15 +39,15 @@ caseD = caseNew (2 ^ 40)
     ∷ unmap-1 0 0xFFFF_FFFF_FFFF_FFFF 2 gives refused 3 0x05 0x21 0x00 ∷ [])
 
 unfoldable pub caseE : Case
-caseE = caseNew 8 (read-10 0 7 1 gives good (zeros 512) ∷ read-10 0 7 2 gives refused 3 0x05 0x21 0x00 ∷ [])
+caseE = caseNew 8 (read-10 0 7 1 gives good (zeros 512) ∷ read-10 0 7 2 gives pastEndAt 7 ∷ [])
 
 unfoldable pub caseF : Case
-caseF = caseNew 8 (read-10 0 8 0 gives good [] ∷ read-10 0 9 0 gives refused 3 0x05 0x21 0x00 ∷ [])
+caseF = caseNew 8 (read-10 0 8 0 gives good [] ∷ read-10 0 9 0 gives pastEndAt 9 ∷ [])
 
 -- slip 2: no block of a write that meets 8 is mapped
 unfoldable pub caseG : Case
 caseG = caseNew 8
-    (write-10 0 0 3 (block 0xB0 ++ (block 0xC0 ++ block 0xD0)) gives refused 8 0x07 0x27 0x07
+    (write-10 0 0 3 (block 0xB0 ++ (block 0xC0 ++ block 0xD0)) gives noRoomAt 0
     ∷ read-10 0 0 2 gives good (zeros 1024) ∷ [])
 
 -- the write whose second block has no slot, or has one
@@ -58,7 +58,7 @@ writeH = write-10 0 1 2 (block 0xB0 ++ block 0xC0)
 unfoldable pub caseH : Case
 caseH = caseOf (new 8)
     (write-10 0 0 2 (block 0x30 ++ block 0x40) gives good []
-    ∷ writeH gives refused 8 0x07 0x27 0x07
+    ∷ writeH gives noRoomAt 1
     ∷ read-10 0 0 2 gives good (block 0x30 ++ block 0x40)
     ∷ unmap-1 0 0 1 gives good []
     ∷ writeH gives good []

@@ -5,6 +5,8 @@ use mathlib.Core.List.{List, [], _∷_, _++_}
 use Prim.Native.Nat.{ℕ}
 use lib.Dec.{eqb}
 use lib.ListN.{length, drop}
+use Rattle.fields.specs.Bytes.{zeros}
+use Rattle.fields.specs.Field.{bytes}
 use Rattle.answers.specs.declared.Status.{Status}
 use Rattle.answers.specs.declared.Status.the-variants.{Given, Nothing}
 use Rattle.answers.specs.Answers.{numberOf, statusOf}
@@ -37,16 +39,27 @@ good bs c = record { number = 0; status = Given 0x00; sense = c .sense; returned
 unfoldable pub lays : ℕ → Status → List ℕ → Call → Want
 lays number status bs c = record { number = number; status = status; sense = over bs (c .sense); returned = 0; dataIn = c .dataIn }
 
--- status 02h, and "fixed format: byte 0 70h, byte 2 the key, byte 7 0Ah, bytes 12 and 13 the codes, others 0", but for `place`, the three bytes 15 to
--- 17, by Q-4: "For answers 2 and 5 fill sense bytes 15 to 17 per SPC: byte 15 bit 7 set, bit 6 set for the CDB and clear for the list, bit 3 set, bits
--- 2-0 the top bit of the field; 16-17 the field's first byte."
-unfoldable pub refusedAt : ℕ → ℕ → ℕ → ℕ → List ℕ → Call → Want
-refusedAt n key asc ascq place =
-    lays n (Given 0x02) (0x70 ∷ 0 ∷ key ∷ 0 ∷ 0 ∷ 0 ∷ 0 ∷ 0x0A ∷ 0 ∷ 0 ∷ 0 ∷ 0 ∷ asc ∷ ascq ∷ 0 ∷ place)
+-- status 02h, and "fixed format: byte 0 70h, byte 2 the key, byte 7 0Ah, bytes 12 and 13 the codes, others 0", but for `response`, byte 0, and
+-- `address`, the four bytes 3 to 6; and for `place`, the three bytes 15 to 17
+unfoldable pub refusedWith : ℕ → ℕ → ℕ → ℕ → ℕ → List ℕ → List ℕ → Call → Want
+refusedWith n response key asc ascq address place =
+    lays n (Given 0x02) (response ∷ 0 ∷ key ∷ (address ++ (0x0A ∷ 0 ∷ 0 ∷ 0 ∷ 0 ∷ asc ∷ ascq ∷ 0 ∷ place)))
 
--- all other answers with sense point nowhere
+-- Q-4: "For answers 2 and 5 fill sense bytes 15 to 17 per SPC: byte 15 bit 7 set, bit 6 set for the CDB and clear for the list, bit 3 set, bits 2-0 the
+-- top bit of the field; 16-17 the field's first byte."
+unfoldable pub refusedAt : ℕ → ℕ → ℕ → ℕ → List ℕ → Call → Want
+refusedAt n key asc ascq place = refusedWith n 0x70 key asc ascq (zeros 4) place
+
+-- all other answers with sense point nowhere, and tell no address
 unfoldable pub refused : ℕ → ℕ → ℕ → ℕ → Call → Want
 refused n key asc ascq = refusedAt n key asc ascq (0 ∷ 0 ∷ 0 ∷ [])
+
+-- 3, and 8, with an address that fits: Q-8: "any other sets byte 0 to F0h"
+unfoldable pub pastEndAt : ℕ → Call → Want
+pastEndAt address = refusedWith 3 0xF0 0x05 0x21 0x00 (bytes 4 address) (zeros 3)
+
+unfoldable pub noRoomAt : ℕ → Call → Want
+noRoomAt address = refusedWith 8 0xF0 0x07 0x27 0x07 (bytes 4 address) (zeros 3)
 
 -- 2, and 5
 unfoldable pub wrongFieldAt : List ℕ → Call → Want
@@ -109,9 +122,9 @@ returnedShows w x = eqb (x .returned) (w .returned)
 unfoldable pub dataShows : Want → Seen → Bool
 dataShows w x = same (x .dataIn) (w .dataIn)
 
--- of the store in the end with the one wanted: the unit's record, owners, and every byte of the medium
+-- of the store in the end with the one wanted: the format, the unit's record, owners, and every byte of the medium
 unfoldable pub ends : Store → Store → Bool
-ends w s = sameUnit (s .unit) (w .unit) && samePool (s .pool) (w .pool)
+ends w s = eqb (s .format) (w .format) && (sameUnit (s .unit) (w .unit) && samePool (s .pool) (w .pool))
 
 -- what is compared of each call, and how the store in the end
 pub record Checker : Type 0 where

@@ -5,7 +5,7 @@ use Prim.Native.Nat.{ℕ}
 use Rattle.fields.specs.Bytes.{zeros}
 use Rattle.fields.specs.Field.{bytes}
 use Rattle.store.specs.Store.{Call}
-use Rattle.demands.specs.Checker.{good, refused, conflicts, no-status, Case, _gives_}
+use Rattle.demands.specs.Checker.{pastEndAt, noRoomAt, good, refused, conflicts, no-status, Case, _gives_}
 use Rattle.demands.specs.Bench.{block, new, places, two, made, made-of, lent, call, read-10}
 use Rattle.demands.specs.Cases.{caseOf, caseStill}
 use Rattle.demands.specs.FurtherCases.{wrongNaca16, wrongProtection, wrongCount16, wrongSameAnchor, wrongAction}
@@ -36,7 +36,7 @@ caseSame = caseOf (new 8)
     (same-16 0 0x08 0 2 (block 0x30) gives good []
     ∷ read-10 0 0 2 gives good (block 0x30 ++ block 0x30)
     ∷ status-16 0 0 100 gives good (told-head 36 ++ (told-run 0 2 0 ++ told-run 2 6 1))
-    ∷ same-16 0 0x00 2 1 (zeros 512) gives refused 8 0x07 0x27 0x07
+    ∷ same-16 0 0x00 2 1 (zeros 512) gives noRoomAt 2
     ∷ same-16 0 0x08 0 8 (zeros 512) gives good []
     ∷ status-16 0 0 100 gives good (told-head 20 ++ told-run 0 8 1)
     ∷ same-16 0 0x01 7 1 [] gives good []
@@ -57,14 +57,14 @@ caseSameRefused = caseStill (made (1 ∷ 3 ∷ []) two 0 0 0)
     ∷ same-16 0 0x80 0 1 (zeros 512) gives wrongProtection
     ∷ same-16 0 0x10 0 1 (zeros 512) gives wrongSameAnchor
     ∷ same-16 0 0x18 0 1 (zeros 512) gives wrongSameAnchor
-    ∷ same-16 0 0x00 8 1 [] gives refused 3 0x05 0x21 0x00
-    ∷ same-16 0 0x09 1 8 [] gives refused 3 0x05 0x21 0x00
+    ∷ same-16 0 0x00 8 1 [] gives pastEndAt 8
+    ∷ same-16 0 0x09 1 8 [] gives pastEndAt 1
     ∷ same-16 0 0x00 0xFFFF_FFFF_FFFF_FFFF 2 (zeros 512) gives refused 3 0x05 0x21 0x00
-    ∷ same-16 0 0x00 0 128 [] gives refused 3 0x05 0x21 0x00
+    ∷ same-16 0 0x00 0 128 [] gives pastEndAt 0
     ∷ same-16 0 0x00 0 1 (zeros 511) gives no-status 12
     ∷ same-16 0 0x08 0 8 (zeros 511) gives no-status 12
-    ∷ same-16 0 0x00 1 1 (zeros 512) gives refused 8 0x07 0x27 0x07
-    ∷ same-16 0 0x01 1 1 [] gives refused 8 0x07 0x27 0x07
+    ∷ same-16 0 0x00 1 1 (zeros 512) gives noRoomAt 1
+    ∷ same-16 0 0x01 1 1 [] gives noRoomAt 1
     ∷ call 0 (0x9E ∷ 0x12 ∷ (zeros 13 ++ (0x04 ∷ []))) [] gives wrongNaca16
     ∷ call 0 (0x93 ∷ 0x01 ∷ (zeros 11 ++ (0x01 ∷ 0x00 ∷ 0x04 ∷ []))) [] gives wrongNaca16 ∷ [])
 
@@ -76,7 +76,7 @@ caseStatus = caseStill (made (8 ∷ 3 ∷ []) two 0 0 0)
     ∷ status-16 0 2 100 gives good (told-head 52 ++ (told-run 2 1 0 ++ (told-run 3 4 1 ++ told-run 7 1 0)))
     ∷ status-16 0 4 100 gives good (told-head 36 ++ (told-run 4 3 1 ++ told-run 7 1 0))
     ∷ status-16 0 7 100 gives good (told-head 20 ++ told-run 7 1 0)
-    ∷ status-16 0 8 100 gives refused 3 0x05 0x21 0x00
+    ∷ status-16 0 8 100 gives pastEndAt 8
     ∷ status-16 0 0xFFFF_FFFF_FFFF_FFFF 0 gives refused 3 0x05 0x21 0x00
     ∷ status-16 0 0 0 gives good []
     ∷ status-16 0 0 8 gives good (told-head 68)

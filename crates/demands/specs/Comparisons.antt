@@ -4,6 +4,7 @@ use mathlib.Core.Path.{_≡_}
 use mathlib.Core.Bool.{true, _&&_}
 use mathlib.Core.List.{List, [], _∷_, _++_}
 use Prim.Native.Nat.{ℕ, _-_}
+use lib.Dec.{eqb}
 use lib.ListN.{length, take, drop}
 use Rattle.fields.specs.Bytes.{zeros}
 use Rattle.answers.specs.declared.Answer.{Answer}
@@ -50,7 +51,7 @@ withoutEnd = record { shows = whole .shows; ends = λ w s. true }
 
 -- and one that compares all but the bytes in the slots
 unfoldable pub withoutMedium : Checker
-withoutMedium = record { shows = whole .shows; ends = λ w s. sameUnit (s .unit) (w .unit) && same (s .pool .owners) (w .pool .owners) }
+withoutMedium = record { shows = whole .shows; ends = λ w s. eqb (s .format) (w .format) && (sameUnit (s .unit) (w .unit) && same (s .pool .owners) (w .pool .owners)) }
 
 -- ---- builds that are wrong in one thing
 
@@ -61,7 +62,7 @@ seenBy g s c = record { seen = g c (step s c .seen); store = step s c .store }
 -- 11 for 12: both have neither status nor sense
 unfoldable pub elevenFor : Answer → Answer
 elevenFor Good = Good
-elevenFor (Refused s) = Refused s
+elevenFor (Refused x) = Refused x
 elevenFor Conflict = Conflict
 elevenFor Unusable = Unusable
 elevenFor Short = Unusable

@@ -21,5 +21,5 @@ TableIsRule = (r : Rights) (n : ℕ) (k : Command) → conflict r n k ≡ ruled 
 -- the command; only PERSISTENT RESERVE OUT, whose row has none, has conflicts of its own
 abbrev pub CellsDecide : Build → Type 0
 CellsDecide f =
-    (k : Command) (s : Store) (c : Call) → AsksFor k c → T (not (isOut c)) → T (usable s) → byItself c ≡ Good
+    (k : Command) (s : Store) (c : Call) → AsksFor k c → T (not (isOut c)) → T (usable s) → byItself (s .format) c ≡ Good
     → f s c .seen .answer ≡ Conflict ↔ T (conflict (s .unit .rights) (c .nexus) k)

@@ -56,15 +56,15 @@ blocksIn p q = readBlocks p (addressIn q) (countIn q)
 abbrev pub IsGood : Store → Call → Type 0
 IsGood s c = step s c .seen .answer ≡ Good
 
--- what the tests of a call by itself answer: who calls, the buffers, and the code, length and fields of the CDB
-unfoldable pub byItself : Call → Answer
-byItself c =
-    first (callRows c ++ (codeRows (entryOf (c .cdb)) ++ (lengthRows (entryOf (c .cdb)) (c .cdb) ++ fieldRows (entryOf (c .cdb)) (c .cdb))))
+-- what the tests of a call by itself answer where sense has this format: who calls, the buffers, and the code, length and fields of the CDB
+unfoldable pub byItself : ℕ → Call → Answer
+byItself format c =
+    first (callRows format c ++ (codeRows (entryOf (c .cdb)) ++ (lengthRows (entryOf (c .cdb)) (c .cdb) ++ fieldRows (entryOf (c .cdb)) (c .cdb))))
 
 -- it comes as far as the command's own tests: the store is usable, the call is right by itself, and no reservation is in its way
 pub record Reaches {m : Move} {c : Call} (s : Store) (a : Asks m c) : Type 0 where
   pub store : T (usable s)
-  pub call : byItself c ≡ Good
+  pub call : byItself (s .format) c ≡ Good
   pub free : conflict (s .unit .rights) (c .nexus) (Moves m) ≡ false
 
 -- its blocks lie within the capacity
@@ -176,12 +176,14 @@ names (d ∷ ds) b = covers d b || names ds b
 
 -- ---- stores that differ in their slots alone
 
--- the unit's record (capacity, rights and generation) is the same, and the pools are alike: free slots, mapped blocks, and what every block reads
+-- the format and the unit's record (capacity, rights and generation) are the same, and the pools are alike: free slots, mapped blocks, and what every
+-- block reads
 pub record Same (s t : Store) : Type 0 where
+  pub format : s .format ≡ t .format
   pub unit : s .unit ≡ t .unit
   pub pool : Alike (s .pool) (t .pool)
 
 -- ---- a store with nothing in it, and all that everybody may know
 
-unfoldable pub plain : Unit → Store
-plain u = record { unit = u; pool = record { owners = zeros 1; medium = zeros 512 } }
+unfoldable pub plain : ℕ → Unit → Store
+plain format u = record { format = format; unit = u; pool = record { owners = zeros 1; medium = zeros 512 } }

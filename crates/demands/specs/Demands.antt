@@ -9,7 +9,8 @@ use lib.Dec.{T}
 use lib.ListN.{length, drop, take}
 use Rattle.fields.specs.Bytes.{zeros}
 use Rattle.answers.specs.declared.Answer.the-variants.{Good, Unusable}
-use Rattle.answers.specs.Answers.{numberOf, senseAfter}
+use Rattle.answers.specs.Answers.{numberOf}
+use Rattle.answers.specs.Sense.{senseWritten, senseAfter}
 use Rattle.rights.specs.Rights.{isOneOf}
 use Rattle.pool.specs.declared.Checked.the-variants.{Valid}
 use Rattle.pool.specs.Pool.{readBlock}
@@ -37,9 +38,9 @@ pub record Demand1 (f : Build) : Type 0 where
   pub refusal-store : (s : Store) (c : Call) → f s c .seen .answer ≢ Good → after f s c ≡ s
   pub refusal-data : (s : Store) (c : Call) → f s c .seen .answer ≢ Good → f s c .seen .dataIn ≡ c .dataIn
   pub refusal-none : (s : Store) (c : Call) → f s c .seen .answer ≢ Good → f s c .seen .returned ≡ 0
-  -- sense changes by the table of answers alone, and only its first 18 bytes
-  pub sense-table : (s : Store) (c : Call) → f s c .seen .sense ≡ senseAfter (f s c .seen .answer) (c .sense)
-  pub sense-past : (s : Store) (c : Call) → drop 18 (f s c .seen .sense) ≡ drop 18 (c .sense)
+  -- sense changes by the table of answers alone, and only the bytes that the store's format writes
+  pub sense-table : (s : Store) (c : Call) → f s c .seen .sense ≡ senseAfter (s .format) (f s c .seen .answer) (c .sense)
+  pub sense-past : (s : Store) (c : Call) → let n = senseWritten (s .format) (f s c .seen .answer) in drop n (f s c .seen .sense) ≡ drop n (c .sense)
   -- "Data-in is written only on 0, and only its first returned bytes."
   pub data-past : (s : Store) (c : Call) → drop (f s c .seen .returned) (f s c .seen .dataIn) ≡ drop (f s c .seen .returned) (c .dataIn)
   -- what is lent keeps its length
@@ -73,9 +74,9 @@ pub record Storage : Type 0 where
   pub unmap-contents : (s : Store) (c : Call) (a : Asks Unmap c) → IsGood s c → (b : ℕ)
       → readBlock (after step s c .pool) b ≡ cond (names (descriptorsOf (a .request) (c .dataOut)) b) (zeros 512) (readBlock (s .pool) b)
   -- a fresh store reads as zeros, whatever lies in its medium
-  pub fresh-reads-zeros : (capacity slots : ℕ) (medium : List ℕ) (r : Call) (a : Asks Read r) → IsGood (freshStore capacity slots medium) r
-      → step (freshStore capacity slots medium) r .seen ≡ seenOf Good (zeros (512 * countIn (a .request))) r
-  -- slots do not matter: stores that agree on the unit's record, on contents and on free slots answer alike for ever
+  pub fresh-reads-zeros : (capacity format slots : ℕ) (medium : List ℕ) (r : Call) (a : Asks Read r) → IsGood (freshStore capacity format slots medium) r
+      → step (freshStore capacity format slots medium) r .seen ≡ seenOf format Good (zeros (512 * countIn (a .request))) r
+  -- slots do not matter: stores that agree on the format, on the unit's record, on contents and on free slots answer alike for ever
   pub slots-hidden : (s t : Store) → T (usable s) → T (usable t) → Same s t → (es : List Event) → seenAll (machine step) s es ≡ seenAll (machine step) t es
   -- "The shared fact for 10 and 16 byte forms is proved once over field width."
   pub forms-agree : (m : Move) → T (isTransfer m) → (s : Store) (c d : Call) (a : Asks m c) (b : Asks m d) → SaysSame a b
@@ -89,8 +90,8 @@ pub record Demand3 (f : Build) : Type 0 where
   -- "Take two valid stores, within their bounds and lent their whole pool at every call, of equal capacity and equal registrations (place by
   -- place), reservation and generation; their blocks and maps may differ. Run a history on each, with the same reservation-out calls and the same
   -- calls by nexuses then shut out from reading, in the same order and with the same lent data and sense buffers. All other calls may differ.
-  -- Then each shut-out call gives the same answer, sense and buffer in both."
-  pub secret : (s t : Store) (cs ds : List Call) → T (usable s) → T (usable t) → s .unit ≡ t .unit
+  -- Then each shut-out call gives the same answer, sense and buffer in both." Q-8: "Demand 3's two stores share the format."
+  pub secret : (s t : Store) (cs ds : List Call) → T (usable s) → T (usable t) → s .format ≡ t .format → s .unit ≡ t .unit
       → watched f s cs ≡ watched f t ds → heard f s cs ≡ heard f t ds
   -- "Apart from reservation-out calls, a shut-out call changes no stored thing"
   pub still : (s : Store) (c : Call) → T (not (isOut c)) → T (isShutOut s c) → after f s c ≡ s
@@ -98,11 +99,11 @@ pub record Demand3 (f : Build) : Type 0 where
   pub out-pool : (s : Store) (c : Call) → T (isOut c) → after f s c .pool ≡ s .pool
 
 -- The first sentences of demand 3, of any machine and of all that can happen to it; `plain` makes a state of what everybody may know alone.
-pub record Secrecy (m : Machine) (plain : Unit → m .State) : Type 0 where
+pub record Secrecy (m : Machine) (plain : ℕ → Unit → m .State) : Type 0 where
   -- what is heard is a function of what everybody may know and of the calls that are watched: each is answered as if nothing were stored
-  pub heard-is : (s : m .State) (es : List Event) → T (m .usable s) → heardOn m s es ≡ replay m plain (m .unit s) (watchedOn m s es)
+  pub heard-is : (s : m .State) (es : List Event) → T (m .usable s) → heardOn m s es ≡ replay m plain (m .format s) (m .unit s) (watchedOn m s es)
   -- so two histories that differ in anything else are heard alike
-  pub secret : (s t : m .State) (es ds : List Event) → T (m .usable s) → T (m .usable t) → m .unit s ≡ m .unit t
+  pub secret : (s t : m .State) (es ds : List Event) → T (m .usable s) → T (m .usable t) → m .format s ≡ m .format t → m .unit s ≡ m .unit t
       → watchedOn m s es ≡ watchedOn m t ds → heardOn m s es ≡ heardOn m t ds
   -- a nexus above 15 is nobody: what it sees is a function of its call alone, and it changes nothing
   pub nobody-learns : (s t : m .State) (c : Call) → T (not (isSomebody c)) → m .seen s c ≡ m .seen t c

@@ -89,7 +89,7 @@ pub record FromFresh (s : Store) : Type 0 where
   -- so a READ returns what they say of each of its blocks, in whichever form, by whomever, and where it overlaps a WRITE or an UNMAP in part
   pub read-back : (es : List Event) (r : Call) (a : Asks Read r) → IsGood (afterAll (machine step) s es) r
       → step (afterAll (machine step) s es) r .seen
-      ≡ seenOf Good (recalledBlocks (answered s es) (addressIn (a .request)) (countIn (a .request))) r
+      ≡ seenOf (s .format) Good (recalledBlocks (answered s es) (addressIn (a .request)) (countIn (a .request))) r
   -- registrations, reservation and generation are a function of the reservation-out calls alone: those calls, one after another, on a store with
   -- nothing in it lead to the same
-  pub rights-by-outs : (es : List Event) → afterAll (machine step) s es .unit ≡ afterAll (machine step) (plain (s .unit)) (outs es) .unit
+  pub rights-by-outs : (es : List Event) → afterAll (machine step) s es .unit ≡ afterAll (machine step) (plain (s .format) (s .unit)) (outs es) .unit

@@ -5,10 +5,11 @@ use Prim.Native.Nat.{ℕ, zero, suc, _-_}
 use lib.ListN.{replicate}
 use Rattle.fields.specs.Bytes.{zeros}
 use Rattle.fields.specs.Field.{bytes}
+use Rattle.answers.specs.Sense.{fixed}
 use Rattle.rights.specs.Places.{unused}
 use Rattle.store.specs.Fresh.{freshStore, freshUnit}
 use Rattle.store.specs.Store.{Call}
-use Rattle.demands.specs.Checker.{good, refused, wrongFieldAt, wrongListAt, conflicts, no-status, Case, Want, _gives_}
+use Rattle.demands.specs.Checker.{pastEndAt, noRoomAt, good, refused, wrongFieldAt, wrongListAt, conflicts, no-status, Case, Want, _gives_}
 use Rattle.demands.specs.Bench.{block, new, at, places, two, eight, made, made-of, lent, call, ready, capacity-16, cdb-10, cdb-16, read-10, read-16, write-10, write-16, unmap-list, descriptor, out, in-call}
 use Rattle.demands.specs.Cases.{caseOf, caseStill, caseNew}
 
@@ -173,7 +174,7 @@ caseSlots =
     ∷ write-10 0 4 1 (block 0xC0) gives good []
     ∷ read-10 0 0 1 gives good (block 0xB0)
     ∷ read-10 0 4 1 gives good (block 0xC0)
-    ∷ write-10 0 1 1 (block 0xD0) gives refused 8 0x07 0x27 0x07 ∷ [])
+    ∷ write-10 0 1 1 (block 0xD0) gives noRoomAt 1 ∷ [])
     (made-of (5 ∷ 1 ∷ []) (block 0xC0 ++ block 0xB0) two 0 0 0)
 
 -- UNMAP: list length 0, 1 to 7, longer than the data; 17 descriptors; a second one past the end, before which nothing is unmapped; two that overlap
@@ -184,7 +185,7 @@ caseUnmap =
     ∷ unmap-list 7 (zeros 7) gives refused 4 0x05 0x1A 0x00
     ∷ unmap-list 24 (zeros 23) gives no-status 12
     ∷ unmap-list 280 (bytes 2 278 ++ (bytes 2 272 ++ zeros 276)) gives wrongDescriptors
-    ∷ unmap-list 40 (bytes 2 38 ++ (bytes 2 32 ++ (zeros 4 ++ (descriptor 0 3 ++ descriptor 8 1)))) gives refused 3 0x05 0x21 0x00
+    ∷ unmap-list 40 (bytes 2 38 ++ (bytes 2 32 ++ (zeros 4 ++ (descriptor 0 3 ++ descriptor 8 1)))) gives pastEndAt 8
     ∷ read-10 0 0 1 gives good (block 0x10)
     ∷ unmap-list 40 (bytes 2 38 ++ (bytes 2 32 ++ (zeros 4 ++ (descriptor 2 1 ++ descriptor 1 3)))) gives good []
     ∷ read-10 0 2 1 gives good (zeros 512) ∷ [])
@@ -199,7 +200,7 @@ caseConsidered =
     ∷ unmap-list 24 (bytes 2 38 ++ (bytes 2 32 ++ (zeros 4 ++ (descriptor 5 1 ++ descriptor 2 1)))) gives good []
     ∷ unmap-list 264 (bytes 2 262 ++ (bytes 2 256 ++ zeros 260)) gives good []
     ∷ unmap-list 24 (bytes 2 22 ++ (bytes 2 16 ++ (zeros 4 ++ descriptor 8 0))) gives good []
-    ∷ unmap-list 24 (bytes 2 22 ++ (bytes 2 16 ++ (zeros 4 ++ descriptor 9 0))) gives refused 3 0x05 0x21 0x00 ∷ [])
+    ∷ unmap-list 24 (bytes 2 22 ++ (bytes 2 16 ++ (zeros 4 ++ descriptor 9 0))) gives pastEndAt 9 ∷ [])
     (made (0 ∷ 3 ∷ []) two 0 0 0)
 
 -- the tests before a command's own, and those of PERSISTENT RESERVE OUT
@@ -451,9 +452,9 @@ blocks (x ∷ xs) = block x ++ blocks xs
 -- and 128 are written, into as many slots. Not one of the list: the checker computes all of it, but the 65,536 bytes in the slots take it half a
 -- minute, so that CasesPass has all but them compared (`most-written-passes`)
 unfoldable pub caseMostWritten : Case
-caseMostWritten = caseOf (freshStore 128 128 (replicate 65536 0xEE))
+caseMostWritten = caseOf (freshStore 128 fixed 128 (replicate 65536 0xEE))
     (write-10 0 0 128 (blocks (rising 1 128)) gives good [] ∷ [])
-    (record { unit = freshUnit 128; pool = record { owners = rising 1 128; medium = blocks (rising 1 128) } })
+    (record { format = fixed; unit = freshUnit 128; pool = record { owners = rising 1 128; medium = blocks (rising 1 128) } })
 
 unfoldable pub furtherCases : List Case
 furtherCases =

@@ -3,6 +3,7 @@
 -- Assumes nothing.
 use mathlib.Core.Bool.{Bool, true, false, _&&_, _||_}
 use mathlib.Core.List.{List, [], _∷_, map}
+use Prim.Native.Nat.{ℕ}
 use lib.Dec.{eqb, leb}
 use Rattle.fields.specs.Field.{byte}
 use Rattle.rights.specs.Bounds.{lastNexus}
@@ -17,8 +18,9 @@ pub data Event : Type 0 where
   call : Call → Event
 
 pub record Machine : Type 1 where
-  -- its states; what everybody may know of one, and whether it can be used
+  -- its states; what everybody may know of one, the format of its sense and the unit's record; and whether it can be used
   pub State : Type 0
+  pub format : State → ℕ
   pub unit : State → Unit
   pub usable : State → Bool
   -- what the caller sees of a call
@@ -43,6 +45,7 @@ afterEvent f s (call c) = after f s c
 abbrev pub machine : Build → Machine
 machine f = record {
   State = Store;
+  format = λ s. s .format;
   unit = λ s. s .unit;
   usable = usable;
   Sight = Seen;
@@ -99,9 +102,9 @@ heardOn m s [] = []
 heardOn m s (call c ∷ es) = add (isKept (m .unit s) c) (m .seen s c) (heardOn m (m .next s (call c)) es)
 
 -- what is heard of calls one after another, each on a state of which nothing is taken but what everybody may know: `plain` makes one of it
-unfoldable pub replay : (m : Machine) → (Unit → m .State) → Unit → List Call → List (m .Sight)
-replay m plain u [] = []
-replay m plain u (c ∷ cs) = m .seen (plain u) c ∷ replay m plain (m .unit (m .next (plain u) (call c))) cs
+unfoldable pub replay : (m : Machine) → (ℕ → Unit → m .State) → ℕ → Unit → List Call → List (m .Sight)
+replay m plain format u [] = []
+replay m plain format u (c ∷ cs) = m .seen (plain format u) c ∷ replay m plain format (m .unit (m .next (plain format u) (call c))) cs
 
 -- ---- the same of a build, where nothing happens but calls
 

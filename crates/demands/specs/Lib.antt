@@ -4,11 +4,13 @@ pub mod Bench
 pub mod Cases
 pub mod FurtherCases
 pub mod ClearingCases
+pub mod SenseCases
 pub mod Comparisons
 pub mod Generation
 pub mod Useless
 pub mod Witness
 pub mod Contents
+pub mod SenseRead
 pub mod Demands
 pub mod AtC
 pub mod FromFresh
@@ -23,4 +25,5 @@ pub mod Limits
 pub mod WrongLimits
 pub mod Pointed
 pub mod WrongPointers
+pub mod Sensed
 pub mod Proved

@@ -12,6 +12,7 @@ use lib.ListN.{length, take, drop}
 use Rattle.fields.specs.Bytes.{part, zeros}
 use Rattle.fields.specs.Field.{field, byte, bit}
 use Rattle.answers.specs.Answers.{numberOf, notListed}
+use Rattle.answers.specs.Sense.{senseBytes}
 use Rattle.pool.specs.Pool.{mapped}
 use Rattle.rights.specs.Rights.{isOneOf}
 use Rattle.descriptors.specs.Descriptors.{considered}
@@ -102,7 +103,7 @@ lbprzTold bs = bit 6 (byte 14 bs)
 pub record Heard (s : Store) (c : Call) : Type 0 where
   pub store : T (usable s)
   pub nexus : c .nexus ≤ 15
-  pub sense : 18 ≤ length (c .sense)
+  pub sense : senseBytes (s .format) ≤ length (c .sense)
 
 -- nothing stands before the fields: the CDB is as long as its code has it, and NACA is clear
 pub record Fielded (s : Store) (c : Call) : Type 0 where

@@ -21,7 +21,7 @@ use Rattle.demands.specs.Reservations.{GoodBy}
 pub record Shown (s : Store) (c : Call) (start allocation : ℕ) (x : Seen) : Type 0 where
   pub page : List ℕ
   pub tells : TellsMap (s .unit .capacity) (s .pool .owners) start page
-  pub seen : x ≡ seenOf Good (take allocation page) c
+  pub seen : x ≡ seenOf (s .format) Good (take allocation page) c
 
 -- no second page of bytes tells the same map from the same address on: what is told is determined to the byte
 abbrev pub OnePage : Type 0
@@ -34,7 +34,7 @@ pub record MapTold (f : Build) : Type 0 where
   -- it changes nothing, however it is answered
   pub still : (s : Store) (c : Call) → Asks Status c → after f s c ≡ s
   -- "Demand 3's shut-out calls now include GET LBA STATUS": it is answered 10 to those who may not read, and to nobody else
-  pub shut-out : (s : Store) (c : Call) → Asks Status c → T (usable s) → byItself c ≡ Good → f s c .seen .answer ≡ Conflict ↔ T (isShutOut s c)
+  pub shut-out : (s : Store) (c : Call) → Asks Status c → T (usable s) → byItself (s .format) c ≡ Good → f s c .seen .answer ≡ Conflict ↔ T (isShutOut s c)
   -- "3 for a start at or past capacity"
   pub past-end : (s : Store) (c : Call) (a : Asks Status c) → Reaches s a → s .unit .capacity ≤ addressIn (a .request)
-      → f s c .seen .answer ≡ outOfRange
+      → f s c .seen .answer ≡ outOfRange (addressIn (a .request))

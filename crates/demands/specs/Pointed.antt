@@ -7,15 +7,14 @@ use mathlib.Core.Bool.{Bool, true, false, _&&_, _||_}
 use mathlib.Core.List.{List, [], _∷_}
 use Prim.Native.Nat.{ℕ, _+_, _*_, _-_, _/_, _%_, _≤_, _<_}
 use lib.Dec.{T, eqb, ltb}
-use lib.ListN.{length, take}
+use lib.ListN.{length}
 use Rattle.fields.specs.Field.{field, byte, bit}
 use Rattle.fields.specs.Bits.{Bits, within, firstByte, topBit, bitCount, AgreeIn}
 use Rattle.answers.specs.declared.Refusal.{Refusal}
 use Rattle.answers.specs.declared.Refusal.the-variants.{NotListed, InvalidField, OutOfRange, ListLength, ListField, NoPlace, OtherType, NoRoom}
-use Rattle.answers.specs.declared.Sense.{Sense}
 use Rattle.answers.specs.declared.Answer.{Answer}
 use Rattle.answers.specs.declared.Answer.the-variants.{Good, Refused, Conflict, Unusable, Short}
-use Rattle.answers.specs.Answers.{codesOf, numberOf, invalidField, listField}
+use Rattle.answers.specs.Answers.{numberOf, invalidField, listField}
 use Rattle.answers.specs.Order.{Row, _if_, first, refuses}
 use Rattle.forms.specs.declared.Code.{Code}
 use Rattle.forms.specs.declared.Entry.the-variants.{Listed}
@@ -27,24 +26,9 @@ use Rattle.store.specs.Step.{guardRows, ownRows}
 use Rattle.demands.specs.History.{Build}
 use Rattle.demands.specs.Contents.{byItself}
 use Rattle.demands.specs.Limits.{Heard}
+use Rattle.demands.specs.SenseRead.{specific, sksv, commandData, bpv, bitPointer, fieldPointer}
 
--- ---- sense, as a host reads it; the names are SPC's
-
--- byte 15: SKSV, C/D, BPV and the bit pointer; bytes 16-17: the field pointer
-unfoldable pub sksv : List ℕ → Bool
-sksv sense = bit 7 (byte 15 sense)
-
-unfoldable pub commandData : List ℕ → Bool
-commandData sense = bit 6 (byte 15 sense)
-
-unfoldable pub bpv : List ℕ → Bool
-bpv sense = bit 3 (byte 15 sense)
-
-unfoldable pub bitPointer : List ℕ → ℕ
-bitPointer sense = byte 15 sense % 8
-
-unfoldable pub fieldPointer : List ℕ → ℕ
-fieldPointer sense = field 16 2 sense
+-- ---- sense, as a host reads it
 
 -- it points at this field, of the CDB where C/D is set, of the parameter list where it is clear
 pub record PointsAt (cdb : Bool) (b : Bits) (sense : List ℕ) : Type 0 where
@@ -54,7 +38,7 @@ pub record PointsAt (cdb : Bool) (b : Bits) (sense : List ℕ) : Type 0 where
   pub at-bit : bitPointer sense ≡ topBit b
   pub at-byte : fieldPointer sense ≡ firstByte b
   -- bits 5 and 4 are reserved
-  pub reserved : byte 15 sense / 16 % 4 ≡ 0
+  pub reserved : byte 0 (specific sense) / 16 % 4 ≡ 0
 
 -- ---- the same call with another CDB, or with another list
 
@@ -80,7 +64,7 @@ pub record Pointed (f : Build) : Type 0 where
   -- and so it is answered, where a call comes as far as its fields, or as far as its list
   pub cdb-due : (s : Store) (c : Call) → Heard s c → (code : Code) → entryOf (c .cdb) ≡ Listed code → length (c .cdb) ≡ code .long
       → (b : Bits) → first (fieldRows (entryOf (c .cdb)) (c .cdb)) ≡ invalidField b → f s c .seen .answer ≡ invalidField b
-  pub list-due : (s : Store) (c : Call) → T (usable s) → byItself c ≡ Good → first (guardRows (askedOf (c .cdb)) (s .unit .rights) (c .nexus)) ≡ Good
+  pub list-due : (s : Store) (c : Call) → T (usable s) → byItself (s .format) c ≡ Good → first (guardRows (askedOf (c .cdb)) (s .unit .rights) (c .nexus)) ≡ Good
       → (b : Bits) → first (ownRows (askedOf (c .cdb)) s c) ≡ listField b → f s c .seen .answer ≡ listField b
   -- "For answers 2 and 5 fill sense bytes 15 to 17": each names a field, and sense points at it
   pub cdb-named : (s : Store) (c : Call) → numberOf (f s c .seen .answer) ≡ 2 → (b : Bits) × (f s c .seen .answer ≡ invalidField b)
@@ -101,25 +85,11 @@ pub record Pointed (f : Build) : Type 0 where
       → (list : List ℕ) → AreBytes (c .dataOut) → AreBytes list → AgreeIn b (c .dataOut) list
       → T (refuses (f s (withList c list) .seen .answer))
   -- every other answer with sense points nowhere
-  pub nowhere : (s : Store) (c : Call) (x : Sense) → f s c .seen .answer ≡ Refused x
-      → numberOf (f s c .seen .answer) ≢ 2 → numberOf (f s c .seen .answer) ≢ 5 → field 15 3 (f s c .seen .sense) ≡ 0
-  -- key and codes are as before, and so is every byte up to 14
-  pub codes : (s : Store) (c : Call) (x : Sense) → f s c .seen .answer ≡ Refused x
-      → take 15 (f s c .seen .sense)
-      ≡ 0x70 ∷ 0 ∷ codesOf (x .refusal) .key ∷ 0 ∷ 0 ∷ 0 ∷ 0 ∷ 0x0A ∷ 0 ∷ 0 ∷ 0 ∷ 0 ∷ codesOf (x .refusal) .asc ∷ codesOf (x .refusal) .ascq ∷ 0 ∷ []
+  pub nowhere : (s : Store) (c : Call) (x : Refusal) → f s c .seen .answer ≡ Refused x
+      → numberOf (f s c .seen .answer) ≢ 2 → numberOf (f s c .seen .answer) ≢ 5 → field 0 3 (specific (f s c .seen .sense)) ≡ 0
 
 -- ---- the places are true, of the table: a row's test depends on the bits of its field alone. That no field is wider than its test is for the cases
 -- to show, which have each place as bytes
-
--- the rows for two lists, one by one: they give the same answers, and where one names a field in which the lists agree, it holds for both or for
--- neither
-unfoldable pub Alike : (Bits → Answer) → List ℕ → List ℕ → List Row → List Row → Type 0
-Alike named l m [] [] = T true
-Alike named l m [] (y ∷ ys) = T false
-Alike named l m (x ∷ xs) [] = T false
-Alike named l m ((a if x) ∷ xs) ((b if y) ∷ ys) = (a ≡ b) × ((p : Bits) → a ≡ named p → AgreeIn p l m → x ≡ y) × Alike named l m xs ys
-
--- ---- and in order
 
 -- the place that an answer names: none, or a first byte, a highest bit and how many bits
 pub data Place : Type 0 where
@@ -129,19 +99,30 @@ pub data Place : Type 0 where
 unfoldable pub placeOf : Refusal → Place
 placeOf NotListed = unplaced
 placeOf (InvalidField byte top n) = placed byte top n
-placeOf OutOfRange = unplaced
+placeOf (OutOfRange address) = unplaced
 placeOf ListLength = unplaced
 placeOf (ListField byte top n) = placed byte top n
 placeOf NoPlace = unplaced
 placeOf OtherType = unplaced
-placeOf NoRoom = unplaced
+placeOf (NoRoom address) = unplaced
 
 unfoldable pub placeIn : Answer → Place
 placeIn Good = unplaced
-placeIn (Refused x) = placeOf (x .refusal)
+placeIn (Refused x) = placeOf x
 placeIn Conflict = unplaced
 placeIn Unusable = unplaced
 placeIn Short = unplaced
+
+-- the rows for two lists, one by one: they give answers of the same number and place, and where one names a field in which the lists agree, it holds
+-- for both or for neither. An address that is told, as Q-8 has it of UNMAP, may be another in another list
+unfoldable pub Alike : (Bits → Answer) → List ℕ → List ℕ → List Row → List Row → Type 0
+Alike named l m [] [] = T true
+Alike named l m [] (y ∷ ys) = T false
+Alike named l m (x ∷ xs) [] = T false
+Alike named l m ((a if x) ∷ xs) ((b if y) ∷ ys) =
+    (numberOf a ≡ numberOf b) × (placeIn a ≡ placeIn b) × ((p : Bits) → a ≡ named p → AgreeIn p l m → x ≡ y) × Alike named l m xs ys
+
+-- ---- and in order
 
 -- "then by lowest byte, then highest bit"; a field of no bits is none
 unfoldable pub precedes : Place → Place → Bool

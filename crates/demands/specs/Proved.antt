@@ -6,6 +6,7 @@ use mathlib.Core.List.{List}
 use Prim.Native.Nat.{ℕ, _*_}
 use lib.Dec.{T}
 use lib.ListN.{length}
+use Rattle.answers.specs.Sense.{formatOk}
 use Rattle.pool.specs.Bounds.{blockBytes}
 use Rattle.pool.specs.Valid.{capacityOk, slotsOk}
 use Rattle.store.specs.Fresh.{freshStore}
@@ -21,6 +22,7 @@ use Rattle.demands.specs.WriteSame.{WritesSame}
 use Rattle.demands.specs.MapTold.{OnePage, MapTold}
 use Rattle.demands.specs.Limits.{Limits}
 use Rattle.demands.specs.Pointed.{Pointed, PlacesTrue}
+use Rattle.demands.specs.Sensed.{Sensed}
 use Rattle.demands.specs.FromFresh.{FromFresh}
 use Rattle.demands.specs.AtC.{Faithful, Demand1AtC, Demand3AtC}
 
@@ -28,7 +30,7 @@ pub record Proved : Type 0 where
   -- every call gets a listed answer, and a refusal changes nothing
   pub demand-1 : Demand1 step
   -- every answer and the whole state after it are what the rules say; and so it looks to those who write and read, who reserve, who take over, who ask,
-  -- who clear logs, who ask for the map, who keep to the limits that they have read, and who want to know which byte was wrong
+  -- who clear logs, who ask for the map, who keep to the limits that they have read, who want to know which byte was wrong, and who read sense
   pub demand-2 : Demand2 step
   pub storage : Storage
   pub reservations : Reservations step
@@ -43,11 +45,12 @@ pub record Proved : Type 0 where
   pub limits : Limits step
   pub pointed : Pointed step
   pub places-true : PlacesTrue
+  pub sensed : Sensed step
   -- step by step from a fresh store
-  pub from-fresh : (capacity slots : ℕ) (medium : List ℕ) → T (capacityOk capacity) → T (slotsOk slots) → length medium ≡ blockBytes * slots
-      → FromFresh (freshStore capacity slots medium)
-  pub taken-over : (capacity slots : ℕ) (medium : List ℕ) → T (capacityOk capacity) → T (slotsOk slots) → length medium ≡ blockBytes * slots
-      → (t : Story) → TakenOver step (freshStore capacity slots medium) t
+  pub from-fresh : (capacity format slots : ℕ) (medium : List ℕ) → T (capacityOk capacity) → T (formatOk format) → T (slotsOk slots)
+      → length medium ≡ blockBytes * slots → FromFresh (freshStore capacity format slots medium)
+  pub taken-over : (capacity format slots : ℕ) (medium : List ℕ) → T (capacityOk capacity) → T (formatOk format) → T (slotsOk slots)
+      → length medium ≡ blockBytes * slots → (t : Story format) → TakenOver step (freshStore capacity format slots medium) t
   -- nexuses shut out from reading learn nothing of blocks and maps
   pub demand-3 : Demand3 step
   pub secrecy : Secrecy (machine step) plain

@@ -211,10 +211,10 @@ pub record Reservations (f : Build) : Type 0 where
       → serviceKey c ≡ 0 → T (oneHolds (typeIn s)) → T (isHolder s (c .nexus)) → typeIn (after f s c) ≡ 0
   -- READ KEYS and READ RESERVATION tell the rights as they are: "the returned bytes are the first min(allocation length, available)"
   pub keys-told : (s : Store) (c : Call) (a : AsksFor (Tells Keys) c) → GoodBy f s c
-      → f s c .seen ≡ seenOf Good (take (allocationIn (a .request)) (keysData (s .unit .rights))) c
+      → f s c .seen ≡ seenOf (s .format) Good (take (allocationIn (a .request)) (keysData (s .unit .rights))) c
   pub reservation-told : (s : Store) (c : Call) (a : AsksFor (Tells Reservation) c) → GoodBy f s c
-      → f s c .seen ≡ seenOf Good (take (allocationIn (a .request)) (reservationData (s .unit .rights))) c
+      → f s c .seen ≡ seenOf (s .format) Good (take (allocationIn (a .request)) (reservationData (s .unit .rights))) c
   -- a call on the blocks that comes as far as the guard is answered 10 exactly where the table stops it; "All other commands pass."
-  pub conflict-table : (m : Move) (s : Store) (c : Call) → Asks m c → T (usable s) → byItself c ≡ Good
+  pub conflict-table : (m : Move) (s : Store) (c : Call) → Asks m c → T (usable s) → byItself (s .format) c ≡ Good
       → f s c .seen .answer ≡ Conflict ↔ T (stopped s c m)
   pub others-pass : (t : Tell) (s : Store) (c : Call) → AsksFor (Tells t) c → f s c .seen .answer ≢ Conflict

@@ -17,17 +17,17 @@ use Rattle.demands.specs.Reservations.{GoodBy}
 
 -- READ KEYS and READ RESERVATION are among the laws of reservations
 pub record Telling (f : Build) : Type 0 where
-  pub ready : (s : Store) (c : Call) → AsksFor (Tells Ready) c → GoodBy f s c → f s c .seen ≡ seenOf Good [] c
+  pub ready : (s : Store) (c : Call) → AsksFor (Tells Ready) c → GoodBy f s c → f s c .seen ≡ seenOf (s .format) Good [] c
   -- "the returned bytes are the first min(allocation length, available)"
   pub inquiry : (s : Store) (c : Call) (a : AsksFor (Tells Inquiry) c) → GoodBy f s c
-      → f s c .seen ≡ seenOf Good (take (allocationIn (a .request)) inquiryData) c
+      → f s c .seen ≡ seenOf (s .format) Good (take (allocationIn (a .request)) inquiryData) c
   -- "Serve INQUIRY pages 00h, B0h (block limits) and B2h (logical block provisioning)"
   pub vital : (s : Store) (c : Call) (a : AsksFor (Tells VitalData) c) → GoodBy f s c
-      → f s c .seen ≡ seenOf Good (take (allocationIn (a .request)) (vitalData (a .request .page))) c
+      → f s c .seen ≡ seenOf (s .format) Good (take (allocationIn (a .request)) (vitalData (a .request .page))) c
   -- "All 8 bytes return."
   pub capacity-10 : (s : Store) (c : Call) → AsksFor (Tells Capacity10) c → GoodBy f s c
-      → f s c .seen ≡ seenOf Good (capacity10Data (s .unit .capacity)) c
+      → f s c .seen ≡ seenOf (s .format) Good (capacity10Data (s .unit .capacity)) c
   pub capacity-16 : (s : Store) (c : Call) (a : AsksFor (Tells Capacity16) c) → GoodBy f s c
-      → f s c .seen ≡ seenOf Good (take (allocationIn (a .request)) (capacity16Data (s .unit .capacity))) c
+      → f s c .seen ≡ seenOf (s .format) Good (take (allocationIn (a .request)) (capacity16Data (s .unit .capacity))) c
   -- and nothing stored changes
   pub leaves : (t : Tell) (s : Store) (c : Call) → AsksFor (Tells t) c → after f s c ≡ s

@@ -8,7 +8,8 @@ use Prim.Native.Nat.{ℕ}
 use lib.Dec.{eqb}
 use Rattle.answers.specs.declared.Answer.{Answer}
 use Rattle.answers.specs.declared.Answer.the-variants.{Good, Unusable}
-use Rattle.answers.specs.Answers.{noRoom, numberOf, senseAfter}
+use Rattle.answers.specs.Answers.{noRoom, numberOf}
+use Rattle.answers.specs.Sense.{senseAfter}
 use Rattle.pool.specs.Pool.{roomFor}
 use Rattle.forms.specs.declared.Command.{Command}
 use Rattle.forms.specs.declared.Command.the-variants.{Tells, Moves, Alters}
@@ -34,13 +35,13 @@ pub record Leaving (f : Build) : Type 0 where
 
 -- ---- one of each
 
--- a build that does not look at the store and leaves it alone: what is seen is a function of the call
-unfoldable pub blind : (Call → Seen) → Build
-blind g s c = record { seen = g c; store = s }
+-- a build that looks at nothing of the store but the format of its sense and leaves it alone: what is seen is a function of that and of the call
+unfoldable pub blind : (ℕ → Call → Seen) → Build
+blind g s c = record { seen = g (s .format) c; store = s }
 
 -- one answer for all, with its sense
-unfoldable pub unmoved : Answer → Call → Seen
-unmoved a c = record { answer = a; returned = 0; dataIn = c .dataIn; sense = senseAfter a (c .sense) }
+unfoldable pub unmoved : Answer → ℕ → Call → Seen
+unmoved a format c = record { answer = a; returned = 0; dataIn = c .dataIn; sense = senseAfter format a (c .sense) }
 
 unfoldable pub constant : Answer → Build
 constant a = blind (unmoved a)
@@ -81,8 +82,15 @@ unfoldable pub lacksRoom : Asked → List ℕ → Bool
 lacksRoom nothing owners = false
 lacksRoom (asks q) owners = isWrite (q .command) && not (roomFor owners (q .address .0) (countIn q))
 
+-- the first block that is asked for
+unfoldable pub startOf : Asked → ℕ
+startOf nothing = 0
+startOf (asks q) = q .address .0
+
 -- slip 4, "Testing room before the conflict, which tells an outsider how full the pool is": a WRITE that lacks room gets 8 where `step` has the
 -- conflict, and nothing else is otherwise
 unfoldable pub roomFirst : Build
 roomFirst s c =
-    cond (eqb (numberOf (step s c .seen .answer)) 10 && lacksRoom (askedOf (c .cdb)) (s .pool .owners)) (blind (unmoved noRoom) s c) (step s c)
+    cond (eqb (numberOf (step s c .seen .answer)) 10 && lacksRoom (askedOf (c .cdb)) (s .pool .owners))
+    (blind (unmoved (noRoom (startOf (askedOf (c .cdb))))) s c)
+    (step s c)

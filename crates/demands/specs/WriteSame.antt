@@ -48,23 +48,23 @@ pub record Clears (q : Request) (c : Call) : Type 0 where
 abbrev pub Writes : Request → Call → Type 0
 Writes q c = T (isUnmap q) → sent q c ≢ zeros 512
 
--- two calls that are right by themselves and differ in UNMAP alone
-pub record SameButUnmap {c d : Call} (a : Asks WriteSame c) (b : Asks WriteSame d) : Type 0 where
+-- two calls that are right by themselves, where sense has this format, and differ in UNMAP alone
+pub record SameButUnmap (format : ℕ) {c d : Call} (a : Asks WriteSame c) (b : Asks WriteSame d) : Type 0 where
   pub range : SameRange (a .request) (b .request)
   pub ndob : isNdob (a .request) ≡ isNdob (b .request)
-  pub first-right : byItself c ≡ Good
-  pub second-right : byItself d ≡ Good
+  pub first-right : byItself format c ≡ Good
+  pub second-right : byItself format d ≡ Good
   pub nexus : c .nexus ≡ d .nexus
   pub dataOut : c .dataOut ≡ d .dataOut
   pub dataIn : c .dataIn ≡ d .dataIn
   pub sense : c .sense ≡ d .sense
 
 -- a WRITE of the block, as many times over as there are blocks, by the same nexus
-pub record Repeats {c w : Call} (a : Asks WriteSame c) (b : Asks Write w) : Type 0 where
+pub record Repeats (format : ℕ) {c w : Call} (a : Asks WriteSame c) (b : Asks Write w) : Type 0 where
   pub range : SameRange (a .request) (b .request)
   pub bytes : w .dataOut ≡ copies (countIn (a .request)) (sent (a .request) c)
-  pub first-right : byItself c ≡ Good
-  pub second-right : byItself w ≡ Good
+  pub first-right : byItself format c ≡ Good
+  pub second-right : byItself format w ≡ Good
   pub nexus : c .nexus ≡ w .nexus
 
 -- ---- the laws
@@ -83,10 +83,10 @@ pub record WritesSame (f : Build) : Type 0 where
   pub good-when : (s : Store) (c : Call) (a : Asks WriteSame c) → Reaches s a
       → GoodBy f s c ↔ (Inside s (a .request) × Sends (a .request) c × (Writes (a .request) c → Room s (a .request)))
   -- with a block that is not zeros UNMAP makes no difference
-  pub nonzero : (s : Store) (c d : Call) (a : Asks WriteSame c) (b : Asks WriteSame d) → T (usable s) → SameButUnmap a b → Sends (a .request) c
+  pub nonzero : (s : Store) (c d : Call) (a : Asks WriteSame c) (b : Asks WriteSame d) → T (usable s) → SameButUnmap (s .format) a b → Sends (a .request) c
       → sent (a .request) c ≢ zeros 512 → f s c ≡ f s d
   -- what is not unmapped is answered as a WRITE of the block so many times over is, and leaves what that leaves
-  pub answered-as-write : (s : Store) (c w : Call) (a : Asks WriteSame c) (b : Asks Write w) → T (usable s) → Repeats a b → Sends (a .request) c
+  pub answered-as-write : (s : Store) (c w : Call) (a : Asks WriteSame c) (b : Asks Write w) → T (usable s) → Repeats (s .format) a b → Sends (a .request) c
       → Writes (a .request) c → f s c .seen .answer ≡ f s w .seen .answer
-  pub leaves-as-write : (s : Store) (c w : Call) (a : Asks WriteSame c) (b : Asks Write w) → T (usable s) → Repeats a b → Sends (a .request) c
+  pub leaves-as-write : (s : Store) (c w : Call) (a : Asks WriteSame c) (b : Asks Write w) → T (usable s) → Repeats (s .format) a b → Sends (a .request) c
       → Writes (a .request) c → after f s c ≡ after f s w

@@ -8,11 +8,12 @@ use lib.Dec.{eqb}
 use Rattle.fields.specs.Bytes.{put, zeros}
 use Rattle.fields.specs.Field.{byte, field, bytes}
 use Rattle.answers.specs.declared.Answer.the-variants.{Conflict}
+use Rattle.answers.specs.Sense.{fixed}
 use Rattle.pool.specs.Pool.{pool}
 use Rattle.rights.specs.Places.{unused, registration}
 use Rattle.rights.specs.Rights.{isOneOf, holds, withPlaces, ended}
 use Rattle.forms.specs.Forms.{action}
-use Rattle.store.specs.Store.{Store, Call, Seen, usable, withRights, withUnit, seenOf}
+use Rattle.store.specs.Store.{Store, Call, Seen, usable, withRights, withUnit, withPool, seenOf}
 use Rattle.store.specs.Step.{step}
 use Rattle.demands.specs.History.{Build}
 use Rattle.demands.specs.Contents.{cdb10, callWith}
@@ -33,7 +34,7 @@ keepingAtClear s c =
 unfoldable pub harsh : Build
 harsh s c =
     cond (eqb (byte 0 (c .cdb)) 0x28 && isOneOf (s .unit .rights .kind) (1 ∷ 7 ∷ []) && not (holds (s .unit .rights) (c .nexus)) && usable s)
-    (record { seen = seenOf Conflict [] c; store = s })
+    (record { seen = seenOf (s .format) Conflict [] c; store = s })
     (step s c)
 
 -- the store with no reservation
@@ -44,7 +45,7 @@ unreserved s = withUnit s (withRights (s .unit) (ended (s .unit .rights)))
 unfoldable pub lax : Build
 lax s c =
     cond (eqb (byte 0 (c .cdb)) 0x2A && isOneOf (s .unit .rights .kind) (1 ∷ 3 ∷ 6 ∷ 7 ∷ 8 ∷ []))
-    (record { seen = step (unreserved s) c .seen; store = record { unit = s .unit; pool = step (unreserved s) c .store .pool } })
+    (record { seen = step (unreserved s) c .seen; store = withPool s (step (unreserved s) c .store .pool) })
     (step s c)
 
 -- what is seen with these bytes laid over the data from byte i on
@@ -78,6 +79,7 @@ openStatus s c =
 -- capacity 8, one free slot; type 1, held by nexus 1 with the key 11h; nexus 2 is registered with the key 22h
 unfoldable pub shown : Store
 shown = record {
+  format = fixed;
   unit = record {
     capacity = 8;
     rights = record {
@@ -115,11 +117,12 @@ writesSame = showing (0x93 ∷ 0x09 ∷ (zeros 11 ++ (2 ∷ 0 ∷ 0 ∷ []))) 1 
 
 -- block 1 is mapped there
 unfoldable pub logged : Store
-logged = record { unit = shown .unit; pool = pool (2 ∷ []) (zeros 511 ++ (0xB0 ∷ [])) }
+logged = withPool shown (pool (2 ∷ []) (zeros 511 ++ (0xB0 ∷ [])))
 
 -- capacity 8 and one slot with this owner; type 3, held by nexus 1
 unfoldable pub guarded : ℕ → Store
 guarded owner = record {
+  format = fixed;
   unit = record {
     capacity = 8;
     rights = record {

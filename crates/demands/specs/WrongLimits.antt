@@ -42,7 +42,7 @@ unlistedServed s c =
 
 -- "byte 1 bit 0 set …: 2", as it was before there were pages: where none is read, nothing is published and nothing can be false
 unfoldable pub mute : Build
-mute s c = cond (eqb (byte 0 (c .cdb)) 0x12 && bit 0 (byte 1 (c .cdb))) (record { seen = seenOf (invalidField pageBits) [] c; store = s }) (step s c)
+mute s c = cond (eqb (byte 0 (c .cdb)) 0x12 && bit 0 (byte 1 (c .cdb))) (record { seen = seenOf (s .format) (invalidField pageBits) [] c; store = s }) (step s c)
 
 -- ---- the calls that show it, on the store `shown` of WrongBuilds
 

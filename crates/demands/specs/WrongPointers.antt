@@ -24,7 +24,7 @@ answers n s c = eqb (numberOf (step s c .seen .answer)) n
 unfoldable pub typeForScope : Build
 typeForScope s c =
     cond (eqb (byte 0 (c .cdb)) 0x5F && answers 2 s c && eqb (byte 15 (step s c .seen .sense)) 0xCF)
-    (record { seen = seenOf (invalidField kindBits) [] c; store = s })
+    (record { seen = seenOf (s .format) (invalidField kindBits) [] c; store = s })
     (step s c)
 
 -- what is seen with these bytes laid over the sense from byte i on

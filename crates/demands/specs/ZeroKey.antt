@@ -39,10 +39,10 @@ use Rattle.demands.specs.Reservations.{GoodBy, keyIn, isRegistered, isHo
 unfoldable pub senderKey : Call → ℕ
 senderKey c = field 0 8 (c .dataOut)
 
--- a reservation-out call that comes as far as its keys: it is right by itself, and its list is whole and has no flag that its action refuses
-pub record Sends (a : Action) (c : Call) : Type 0 where
+-- a reservation-out call that comes as far as its keys: it is right by itself, where sense has this format, and its list is whole and has no flag that its action refuses
+pub record Sends (format : ℕ) (a : Action) (c : Call) : Type 0 where
   pub asked : AsksFor (Alters a) c
-  pub right : byItself c ≡ Good
+  pub right : byItself format c ≡ Good
   pub long : listLengthIn (asked .request) ≡ 24
   pub whole : 24 ≤ length (c .dataOut)
   pub flags : first (flagRows a (parametersOf (asked .request) (c .dataOut))) ≡ Good
@@ -67,7 +67,7 @@ oneHolder generation key type =
 -- ---- one call
 
 pub record ZeroKey (f : Build) : Type 0 where
-  pub answer : (s : Store) (c : Call) → Sends Preempt c → serviceKey c ≡ 0 → T (usable s) → f s c .seen .answer ≡ zeroAnswer s c
+  pub answer : (s : Store) (c : Call) → Sends (s .format) Preempt c → serviceKey c ≡ 0 → T (usable s) → f s c .seen .answer ≡ zeroAnswer s c
   -- "removes every other registration"; the sender keeps its key
   pub registrations : (s : Store) (c : Call) → AsksFor (Alters Preempt) c → GoodBy f s c → serviceKey c ≡ 0 → (n : ℕ)
       → keyIn (after f s c) n ≡ cond (eqb n (c .nexus)) (keyIn s n) 0
@@ -83,13 +83,13 @@ pub record ZeroKey (f : Build) : Type 0 where
   -- what is told afterwards
   pub keys-told : (s : Store) (c d : Call) → AsksFor (Alters Preempt) c → GoodBy f s c → serviceKey c ≡ 0
       → (a : AsksFor (Tells Keys) d) → GoodBy f (after f s c) d
-      → f (after f s c) d .seen ≡ seenOf Good (take (allocationIn (a .request)) (oneKey (generation (after f s c)) (keyIn s (c .nexus)))) d
+      → f (after f s c) d .seen ≡ seenOf (s .format) Good (take (allocationIn (a .request)) (oneKey (generation (after f s c)) (keyIn s (c .nexus)))) d
   pub reservation-told : (s : Store) (c d : Call) (b : AsksFor (Alters Preempt) c) → GoodBy f s c → serviceKey c ≡ 0
       → (a : AsksFor (Tells Reservation) d) → GoodBy f (after f s c) d
-      → f (after f s c) d .seen ≡ seenOf Good (take (allocationIn (a .request)) (oneHolder (generation (after f s c)) (keyIn s (c .nexus)) (b .request .kind))) d
+      → f (after f s c) d .seen ≡ seenOf (s .format) Good (take (allocationIn (a .request)) (oneHolder (generation (after f s c)) (keyIn s (c .nexus)) (b .request .kind))) d
   -- all others are outsiders from then on: their next READ, WRITE or UNMAP conflicts where the type named has it so
   pub others : (m : Move) (s : Store) (c d : Call) (b : AsksFor (Alters Preempt) c) → GoodBy f s c → serviceKey c ≡ 0
-      → Asks m d → byItself d ≡ Good → d .nexus ≢ c .nexus
+      → Asks m d → byItself (s .format) d ≡ Good → d .nexus ≢ c .nexus
       → f (after f s c) d .seen .answer ≡ Conflict ↔ T (says conflictTable (b .request .kind) outsider m)
 
 -- ---- what has not moved
@@ -114,46 +114,46 @@ pub data Which : Type 0 where
   third-one : Which
 
 -- three register; one of them makes a reservation of type 7 or 8, and one sends the key 0 and names a type
-pub record Story : Type 0 where
+pub record Story (format : ℕ) : Type 0 where
   -- their nexuses are different; their keys may be alike
   pub nexus : Which → ℕ
   pub key : Which → ℕ
   pub apart : (i j : Which) → nexus i ≡ nexus j → i ≡ j
   pub nonzero : (i : Which) → key i ≢ 0
   pub register : Which → Call
-  pub registers : (i : Which) → Sends Register (register i)
+  pub registers : (i : Which) → Sends format Register (register i)
   pub registers-from : (i : Which) → register i .nexus ≡ nexus i
   pub registers-own : (i : Which) → senderKey (register i) ≡ 0
   pub registers-key : (i : Which) → serviceKey (register i) ≡ key i
   pub holder : Which
   pub reserve : Call
-  pub reserves : Sends Reserve reserve
+  pub reserves : Sends format Reserve reserve
   pub reserves-from : reserve .nexus ≡ nexus holder
   pub reserves-own : senderKey reserve ≡ key holder
   pub reserves-all : T (allHold (reserves .asked .request .kind))
   pub sender : Which
   pub preempt : Call
-  pub preempts : Sends Preempt preempt
+  pub preempts : Sends format Preempt preempt
   pub preempts-from : preempt .nexus ≡ nexus sender
   pub preempts-own : senderKey preempt ≡ key sender
   pub preempts-zero : serviceKey preempt ≡ 0
 
-unfoldable pub events : Story → List Event
+unfoldable pub events : {format : ℕ} → Story format → List Event
 events t =
     call (t .register first-one) ∷ call (t .register second-one) ∷ call (t .register third-one) ∷ call (t .reserve) ∷ call (t .preempt) ∷ []
 
 -- the type named, whichever of the six
-abbrev pub named : Story → ℕ
+abbrev pub named : {format : ℕ} → Story format → ℕ
 named t = t .preempts .asked .request .kind
 
 unfoldable pub answersOf : List Seen → List Answer
 answersOf xs = map (λ (x : Seen). x .answer) xs
 
 -- how it ends on s
-unfoldable pub ending : Build → Store → Story → Store
+unfoldable pub ending : {format : ℕ} → Build → Store → Story format → Store
 ending f s t = afterAll (machine f) s (events t)
 
-pub record TakenOver (f : Build) (s : Store) (t : Story) : Type 0 where
+pub record TakenOver {format : ℕ} (f : Build) (s : Store) (t : Story format) : Type 0 where
   pub all-good : answersOf (seenAll (machine f) s (events t)) ≡ Good ∷ Good ∷ Good ∷ Good ∷ Good ∷ []
   -- nobody but the sender is registered, and it holds the type named
   pub registrations : (n : ℕ) → keyIn (ending f s t) n ≡ cond (eqb n (t .nexus (t .sender))) (t .key (t .sender)) 0
@@ -161,9 +161,9 @@ pub record TakenOver (f : Build) (s : Store) (t : Story) : Type 0 where
   pub holders : (n : ℕ) → isHolder (ending f s t) n ≡ eqb n (t .nexus (t .sender))
   -- READ KEYS and READ RESERVATION say so, with the generation of four changes
   pub keys-told : (c : Call) (a : AsksFor (Tells Keys) c) → GoodBy f (ending f s t) c
-      → f (ending f s t) c .seen ≡ seenOf Good (take (allocationIn (a .request)) (oneKey 4 (t .key (t .sender)))) c
+      → f (ending f s t) c .seen ≡ seenOf format Good (take (allocationIn (a .request)) (oneKey 4 (t .key (t .sender)))) c
   pub reservation-told : (c : Call) (a : AsksFor (Tells Reservation) c) → GoodBy f (ending f s t) c
-      → f (ending f s t) c .seen ≡ seenOf Good (take (allocationIn (a .request)) (oneHolder 4 (t .key (t .sender)) (named t))) c
+      → f (ending f s t) c .seen ≡ seenOf format Good (take (allocationIn (a .request)) (oneHolder 4 (t .key (t .sender)) (named t))) c
   -- and the others are outsiders
-  pub others : (m : Move) (c : Call) → Asks m c → byItself c ≡ Good → c .nexus ≢ t .nexus (t .sender)
+  pub others : (m : Move) (c : Call) → Asks m c → byItself format c ≡ Good → c .nexus ≢ t .nexus (t .sender)
       → f (ending f s t) c .seen .answer ≡ Conflict ↔ T (says conflictTable (named t) outsider m)

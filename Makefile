@@ -1,7 +1,7 @@
 # `make help` lists what there is. Each target is a script, which says at its top what it does and takes its variables from the environment, so that
 # paths with blanks and other characters arrive as they are.
 
-export SHEET CALLS SEED ROUNDS CAPACITY SLOTS IMAGE VERBOSE PREFIX DESTDIR
+export SHEET CALLS SEED ROUNDS CAPACITY SLOTS SENSE IMAGE VERBOSE PREFIX DESTDIR
 
 .PHONY: help run test serve torture benchmark differential library install uninstall clean
 
@@ -14,7 +14,7 @@ run: ## the bench on an example sheet, or on SHEET=path
 test: ## the gate: every proof from nothing, every wrong edit refused, every program and host check run
 	@tools/test
 
-serve: ## a store for SCSI tools, until Ctrl-C: CAPACITY=blocks SLOTS=n IMAGE=file VERBOSE=0..2
+serve: ## a store for SCSI tools, until Ctrl-C: CAPACITY=blocks SLOTS=n SENSE=fixed|descriptor IMAGE=file VERBOSE=0..2
 	@tools/serve
 
 torture: ## kills the server ROUNDS=n times (200) at random moments of a write load; SEED=n repeats a run

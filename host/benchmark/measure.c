@@ -30,8 +30,11 @@ enum {
     STATUS_BYTES = 8 + RIDGE_STATUS_DESCRIPTORS * 16
 };
 
-/* One block: a pattern, zeros, or zeros up to its last byte. */
-enum sends { NOTHING, BLOCKS, PATTERN, ZEROS, ALMOST_ZEROS, DESCRIPTORS, KEYS };
+/* One block: a pattern, zeros, or zeros up to its last byte. Descriptors that
+   all fit, or all but the last. */
+enum sends {
+    NOTHING, BLOCKS, PATTERN, ZEROS, ALMOST_ZEROS, DESCRIPTORS, LAST_FAILS, KEYS
+};
 
 /* Which block slot i holds. SCATTERED: 37 i mod 128, so that blocks in rising
    order lie in scattered slots. APART: step times that. EVERY: i x 2^step.
@@ -41,9 +44,11 @@ enum sends { NOTHING, BLOCKS, PATTERN, ZEROS, ALMOST_ZEROS, DESCRIPTORS, KEYS };
    last slot holds the block of the one before. */
 enum layout { SCATTERED, APART, EVERY, FALLING, RANDOM, CHOSEN, TWICE };
 
-/* One row of the table. Place i is nexus i with key 10h + i. */
+/* One row of the table. Place i is nexus i with key 10h + i. The sense is fixed
+   where the row does not say that it is in descriptor format. */
 struct operation {
     const char *title;
+    int descriptor_sense;
     size_t slots, full, places, moved;
     enum layout layout;
     unsigned step;
@@ -67,6 +72,10 @@ struct operation {
 #define HELD FULL, .places = 8, .type = 1, .holder = 7, .cdb_bytes = 10
 #define SHARED FULL, .places = 8, .type = 6, .holder = 7, .cdb_bytes = 10
 #define OUT HELD, .sends = KEYS, .moved = LIST_BYTES
+#define PAST_THE_END                                    \
+    .answer = RIDGE_ADDRESS_RANGE, .cdb_bytes = 10,     \
+    .cdb = {0x28, [4] = CAPACITY >> 8, CAPACITY & 0xFF, \
+            [8] = 1}
 
 /* Of byte 1 of WRITE SAME. */
 enum { UNMAP = 0x08, NDOB = 0x01 };
@@ -110,6 +119,17 @@ static const struct operation operations[] = {
      .moved = TRANSFER_BYTES, .cdb_bytes = 10, .cdb = {0x28, [8] = 128}},
     {"READ(10), 129 blocks, refused for the count (2)", FULL,
      .answer = RIDGE_CDB_FIELD, .cdb_bytes = 10, .cdb = {0x28, [8] = 129}},
+    {"READ(10), 129 blocks, refused for the count (2), descriptor sense", FULL,
+     .descriptor_sense = 1, .answer = RIDGE_CDB_FIELD, .cdb_bytes = 10,
+     .cdb = {0x28, [8] = 129}},
+    {"READ(10), refused past the end (3), fixed sense, 1 full slot", .slots = 1,
+     .full = 1, PAST_THE_END},
+    {"READ(10), refused past the end (3), fixed sense, 128 full slots", FULL,
+     PAST_THE_END},
+    {"READ(10), refused past the end (3), descriptor sense, 1 full slot",
+     .descriptor_sense = 1, .slots = 1, .full = 1, PAST_THE_END},
+    {"READ(10), refused past the end (3), descriptor sense, 128 full slots",
+     .descriptor_sense = 1, FULL, PAST_THE_END},
     {"WRITE(10), 1 block, mapped", FULL, .moved = 512, .sends = BLOCKS,
      .cdb_bytes = 10, .cdb = {0x2A, [5] = 5, [8] = 1}},
     {"WRITE(10), 1 block, new, 127 full slots", .slots = 128, .full = 127,
@@ -163,6 +183,9 @@ static const struct operation operations[] = {
     {"UNMAP, 16 descriptors, all 128 slots freed", FULL, .sends = DESCRIPTORS,
      .moved = DESCRIPTORS_BYTES, .cdb_bytes = 10,
      .cdb = {0x42, [7] = DESCRIPTORS_BYTES >> 8, DESCRIPTORS_BYTES & 0xFF}},
+    {"UNMAP, 16 descriptors, refused for the last (3)", FULL,
+     .sends = LAST_FAILS, .answer = RIDGE_ADDRESS_RANGE, .cdb_bytes = 10,
+     .cdb = {0x42, [7] = DESCRIPTORS_BYTES >> 8, DESCRIPTORS_BYTES & 0xFF}},
     {"READ(10), 1 block, refused by the reservation (10)", SHARED, .nexus = 8,
      .answer = RIDGE_CONFLICT, .cdb = {0x28, [5] = 5, [8] = 1}},
     {"READ(10), 1 block, by a registrant under 6", SHARED, .nexus = 6,
@@ -197,6 +220,7 @@ static const struct operation operations[] = {
 enum { OPERATIONS = sizeof operations / sizeof operations[0] };
 
 static const struct operation *operation;
+static uint64_t format;
 static _Alignas(64) struct ridge_unit unit, saved_unit;
 static _Alignas(64) uint64_t owners[RIDGE_SLOTS], saved_owners[RIDGE_SLOTS];
 static _Alignas(64) uint8_t medium[TRANSFER_BYTES];
@@ -261,6 +285,7 @@ static void prepare_owners(void)
 static void prepare_store(void)
 {
     struct ridge_rights *rights = &saved_unit.rights;
+    format = operation->descriptor_sense ? RIDGE_DESCRIPTOR : RIDGE_FIXED;
     saved_unit.capacity =
         operation->layout == SCATTERED ? CAPACITY : RIDGE_CAPACITY_LAST;
     rights->type = operation->type;
@@ -303,6 +328,8 @@ static void prepare_descriptors(void)
         store(data_out + 8 + 16 * i, 8, DESCRIPTOR_BLOCKS * i);
         store(data_out + 16 + 16 * i, 4, DESCRIPTOR_BLOCKS);
     }
+    if (operation->sends == LAST_FAILS)
+        store(data_out + 16 * RIDGE_DESCRIPTORS - 8, 8, CAPACITY);
 }
 
 static void prepare_keys(void)
@@ -327,6 +354,7 @@ static void prepare(void)
         prepare_block();
         return;
     case DESCRIPTORS:
+    case LAST_FAILS:
         prepare_descriptors();
         return;
     case KEYS:
@@ -360,10 +388,10 @@ static void call(void)
 #else
 static void call(void)
 {
-    static uint8_t sense[RIDGE_SENSE_BYTES];
+    static uint8_t sense[RIDGE_DESCRIPTOR_SENSE_BYTES];
     uint64_t returned;
     answer = ridge_execute(
-        &unit, owners, operation->slots, medium,
+        format, &unit, owners, operation->slots, medium,
         operation->slots * RIDGE_BLOCK_BYTES, operation->nexus, operation->cdb,
         operation->cdb_bytes, data_out, data_out_bytes, data_in, sizeof data_in,
         sense, sizeof sense, &returned);

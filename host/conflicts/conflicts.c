@@ -90,10 +90,11 @@ static uint64_t execute(uint64_t nexus, const uint8_t *cdb, size_t cdb_bytes,
                         size_t data_in_bytes)
 {
     calls++;
-    return ridge_execute(&store.unit, store.owners, SLOTS, store.medium,
-                         sizeof store.medium, nexus, cdb, cdb_bytes, data_out,
-                         data_out_bytes, store.data_in, data_in_bytes,
-                         store.sense, sizeof store.sense, &returned);
+    return ridge_execute(RIDGE_FIXED, &store.unit, store.owners, SLOTS,
+                         store.medium, sizeof store.medium, nexus, cdb,
+                         cdb_bytes, data_out, data_out_bytes, store.data_in,
+                         data_in_bytes, store.sense, sizeof store.sense,
+                         &returned);
 }
 
 static void put(uint8_t *at, size_t bytes, uint64_t number)
@@ -135,7 +136,8 @@ static void set_scene(void)
 
     memset(&store, FILL, sizeof store);
     memset(blocks, 0x5A, sizeof blocks);
-    uint64_t answers = ridge_fresh(CAPACITY, &store.unit, store.owners, SLOTS);
+    uint64_t answers = ridge_fresh(CAPACITY, RIDGE_FIXED, &store.unit,
+                                   store.owners, SLOTS);
     answers += execute(scene->nexuses[OUTSIDER], cdb, sizeof cdb, blocks,
                        sizeof blocks, DATA_ROOM);
     if (scene->registrations) {

@@ -1,5 +1,5 @@
-/* Words for operation codes and answers (names.h). They decide nothing: what a
-   command is and does is the store's to say. */
+/* Words for operation codes, answers and formats (names.h). They decide nothing:
+   what a command is and does is the store's to say. */
 #include "names.h"
 
 #include "ridge.h"
@@ -53,5 +53,14 @@ const char *name_of_answer(uint64_t answer)
     case RIDGE_UNUSABLE: return "unusable call";
     case RIDGE_BUFFER_SHORT: return "a buffer too short";
     default: return "no answer of the table";
+    }
+}
+
+const char *name_of_format(uint64_t format)
+{
+    switch (format) {
+    case RIDGE_FIXED: return "fixed";
+    case RIDGE_DESCRIPTOR: return "descriptor";
+    default: return "no format of sense";
     }
 }

@@ -1,5 +1,6 @@
 /* Reads the server's command line (options.h). A number that is none, or out
-   of its bounds, is refused by name: nothing is cut to fit. */
+   of its bounds, is refused by name, and so is a format that is none: nothing is
+   cut to fit. */
 #define _GNU_SOURCE
 #include "options.h"
 
@@ -9,18 +10,21 @@
 #include <stdlib.h>
 #include <string.h>
 
+#include "names.h"
 #include "ridge.h"
 
 enum { VERBOSE_MOST = 2 };
 
 static const char usage[] =
     "usage: server --socket PATH [--capacity BLOCKS] [--slots NUMBER]\n"
-    "              [--image FILE] [--verbose 0|1|2] [--until-input-ends]\n";
+    "              [--sense fixed|descriptor] [--image FILE] [--verbose 0|1|2]\n"
+    "              [--until-input-ends]\n";
 
 static const struct option known[] = {
     {"socket", required_argument, NULL, 's'},
     {"capacity", required_argument, NULL, 'c'},
     {"slots", required_argument, NULL, 'n'},
+    {"sense", required_argument, NULL, 'f'},
     {"image", required_argument, NULL, 'i'},
     {"verbose", required_argument, NULL, 'v'},
     {"until-input-ends", no_argument, NULL, 'u'},
@@ -41,6 +45,18 @@ static int number(const char *what, const char *word, uint64_t least,
     return 0;
 }
 
+static int format(const char *word, uint64_t *value)
+{
+    static const uint64_t formats[] = {RIDGE_FIXED, RIDGE_DESCRIPTOR};
+    for (size_t i = 0; i < sizeof formats / sizeof formats[0]; i++) {
+        *value = formats[i];
+        if (strcmp(word, name_of_format(*value)) == 0)
+            return 1;
+    }
+    fprintf(stderr, "server: sense: '%s' is neither fixed nor descriptor\n", word);
+    return 0;
+}
+
 static int take(struct options *options, int option)
 {
     uint64_t level = 0;
@@ -56,6 +72,8 @@ static int take(struct options *options, int option)
                       &options->capacity);
     case 'n':
         return number("slots", optarg, 1, RIDGE_SLOTS, &options->slots);
+    case 'f':
+        return format(optarg, &options->format);
     case 'v':
         if (!number("verbose", optarg, 0, VERBOSE_MOST, &level))
             return 0;

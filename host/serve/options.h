@@ -6,7 +6,7 @@
 
 struct options {
     const char *socket, *image;
-    uint64_t capacity, slots; /* 0 where none is named */
+    uint64_t capacity, slots, format; /* 0 where none is named */
     int verbose;
     int until_input_ends;
 };

@@ -1,8 +1,9 @@
 /* The process that holds the store for SCSI tools, behind a Unix socket
    (wire.h).
 
-     server --socket PATH [--capacity BLOCKS] [--slots NUMBER] [--image FILE]
-            [--verbose 0|1|2] [--until-input-ends]
+     server --socket PATH [--capacity BLOCKS] [--slots NUMBER]
+            [--sense fixed|descriptor] [--image FILE] [--verbose 0|1|2]
+            [--until-input-ends]
 
    It prints a line that begins with `ready` once it can be asked, serves one
    command at a time and ends at SIGTERM, SIGINT or SIGHUP, also in the middle
@@ -93,7 +94,7 @@ static void tell(const struct store_call *call, uint64_t answer)
         return;
     tell_bytes("data-out", data_out, call->data_out_bytes);
     tell_bytes("data-in", data_in, (size_t)call->returned);
-    tell_bytes("sense", call->sense, store_sense_bytes(answer));
+    tell_bytes("sense", call->sense, call->sense_bytes);
 }
 
 static void tell_counts(void)
@@ -106,9 +107,9 @@ static void tell_counts(void)
 
 static void tell_ready(int was_there)
 {
-    printf("ready: %llu blocks, %zu slots of which %zu are used; ",
+    printf("ready: %llu blocks, %zu slots of which %zu are used, %s sense; ",
            (unsigned long long)store_capacity(&store), store_slots(&store),
-           store_slots_used(&store));
+           store_slots_used(&store), name_of_format(store_format(&store)));
     if (options.image == NULL)
         printf("a fresh store that ends with this server\n");
     else
@@ -135,7 +136,7 @@ static int send_reply(struct wire *wire, const struct store_call *call,
 {
     uint8_t head[WIRE_REPLY_BYTES];
     struct wire_reply reply = {.answer = (uint32_t)answer,
-                               .sense_bytes = (uint32_t)store_sense_bytes(answer),
+                               .sense_bytes = (uint32_t)call->sense_bytes,
                                .returned = (uint32_t)call->returned};
     wire_store_reply(head, &reply);
     return wire_send(wire, head, sizeof head) &&
@@ -299,12 +300,15 @@ static int listen_there(void)
 static int as_named(void)
 {
     uint64_t capacity = store_capacity(&store), slots = store_slots(&store);
+    uint64_t format = store_format(&store);
     if ((options.capacity == 0 || options.capacity == capacity) &&
-        (options.slots == 0 || options.slots == slots))
+        (options.slots == 0 || options.slots == slots) &&
+        (options.format == 0 || options.format == format))
         return 1;
-    fprintf(stderr, "server: %s: its store has %llu blocks and %llu slots, not "
-            "what is asked for\n", options.image, (unsigned long long)capacity,
-            (unsigned long long)slots);
+    fprintf(stderr, "server: %s: its store has %llu blocks, %llu slots and %s "
+            "sense, not what is asked for\n", options.image,
+            (unsigned long long)capacity, (unsigned long long)slots,
+            name_of_format(format));
     return 0;
 }
 
@@ -313,7 +317,8 @@ static int make_fresh(void)
     uint64_t capacity =
         options.capacity == 0 ? CAPACITY_UNLESS_NAMED : options.capacity;
     uint64_t slots = options.slots == 0 ? SLOTS_UNLESS_NAMED : options.slots;
-    return store_fresh(&store, capacity, slots) ||
+    uint64_t format = options.format == 0 ? RIDGE_FIXED : options.format;
+    return store_fresh(&store, capacity, format, slots) ||
            fail("a fresh store", "capacity or slots out of bounds");
 }
 

@@ -3,20 +3,32 @@
    memory. When the record gains fields, this file learns them, STORE_LAYOUT
    rises, and store_unpack keeps reading the layouts before it.
 
-   Layout 1, numbers most significant byte first:
+   Layout 2, which store_pack writes, numbers most significant byte first:
      0-3    slots
      4-7    numbers of the record, 20
-     8-167  the record, 8 bytes a number: capacity, generation, type, holder,
+     8-15   the format of sense, 70h fixed or 72h descriptor
+     16-175 the record, 8 bytes a number: capacity, generation, type, holder,
             the nexuses of the 8 places, the keys of the 8 places
-     168-   the owners, 8 bytes a slot
-            the medium, 512 bytes a slot */
+     176-   the owners, 8 bytes a slot
+            the medium, 512 bytes a slot
+
+   Layout 1, which servers wrote when sense had one format, is the same without
+   bytes 8-15: its store has fixed sense. */
 #include "store.h"
 
 #include <string.h>
 
 #include "numbers.h"
 
-enum { HEAD_BYTES = 8, NUMBER_BYTES = 8 };
+enum {
+    LAYOUT_WITHOUT_FORMAT = 1,
+    COUNTS_BYTES = 8,
+    FORMAT_BYTES = 8,
+    NUMBER_BYTES = 8,
+    /* Of descriptor sense: what is always there, and where its length stands. */
+    SENSE_HEADER_BYTES = 8,
+    SENSE_LENGTH_AT = 7
+};
 
 /* Where the record's numbers stand among themselves. */
 enum {
@@ -29,31 +41,26 @@ enum {
     RECORD_NUMBERS = KEYS + RIDGE_PLACES
 };
 
-_Static_assert(RECORD_NUMBERS * NUMBER_BYTES == STORE_RECORD_BYTES,
-               "another record needs another layout");
+_Static_assert(COUNTS_BYTES + FORMAT_BYTES == STORE_HEAD_BYTES &&
+                   RECORD_NUMBERS * NUMBER_BYTES == STORE_RECORD_BYTES,
+               "another head or record needs another layout");
 
-int store_fresh(struct store *store, uint64_t capacity, uint64_t slots)
+int store_fresh(struct store *store, uint64_t capacity, uint64_t format,
+                uint64_t slots)
 {
     memset(store, 0, sizeof *store);
     if (slots > RIDGE_SLOTS)
         return 0;
+    store->format = format;
     store->slots = (size_t)slots;
-    return ridge_fresh(capacity, &store->unit, store->owners, store->slots) ==
-           RIDGE_GOOD;
+    return ridge_fresh(capacity, format, &store->unit, store->owners,
+                       store->slots) == RIDGE_GOOD;
 }
 
-uint64_t store_execute(struct store *store, struct store_call *call)
-{
-    return ridge_execute(&store->unit, store->owners, store->slots,
-                         store->medium,
-                         store->slots * RIDGE_BLOCK_BYTES, call->nexus,
-                         call->cdb, call->cdb_bytes, call->data_out,
-                         call->data_out_bytes, call->data_in,
-                         call->data_in_bytes, call->sense, sizeof call->sense,
-                         &call->returned);
-}
-
-size_t store_sense_bytes(uint64_t answer)
+/* Descriptor sense says its own length; it is held to the room, whatever it
+   says, since these bytes leave the process. */
+static size_t sense_bytes(const struct store *store, const uint8_t *sense,
+                          uint64_t answer)
 {
     switch (answer) {
     case RIDGE_GOOD:
@@ -62,13 +69,34 @@ size_t store_sense_bytes(uint64_t answer)
     case RIDGE_BUFFER_SHORT:
         return 0;
     default:
-        return STORE_SENSE_BYTES;
+        break;
     }
+    if (store->format == RIDGE_FIXED)
+        return RIDGE_SENSE_BYTES;
+    size_t told = SENSE_HEADER_BYTES + (size_t)sense[SENSE_LENGTH_AT];
+    return told < STORE_SENSE_BYTES ? told : STORE_SENSE_BYTES;
+}
+
+uint64_t store_execute(struct store *store, struct store_call *call)
+{
+    uint64_t answer = ridge_execute(
+        store->format, &store->unit, store->owners, store->slots,
+        store->medium, store->slots * RIDGE_BLOCK_BYTES, call->nexus,
+        call->cdb, call->cdb_bytes, call->data_out, call->data_out_bytes,
+        call->data_in, call->data_in_bytes, call->sense, sizeof call->sense,
+        &call->returned);
+    call->sense_bytes = sense_bytes(store, call->sense, answer);
+    return answer;
 }
 
 uint64_t store_capacity(const struct store *store)
 {
     return store->unit.capacity;
+}
+
+uint64_t store_format(const struct store *store)
+{
+    return store->format;
 }
 
 size_t store_slots(const struct store *store)
@@ -87,7 +115,7 @@ size_t store_slots_used(const struct store *store)
 /* The record has no padding, so that its bytes are its fields. */
 int store_same(const struct store *one, const struct store *other)
 {
-    return one->slots == other->slots &&
+    return one->format == other->format && one->slots == other->slots &&
            memcmp(&one->unit, &other->unit, sizeof one->unit) == 0 &&
            memcmp(one->owners, other->owners,
                   one->slots * sizeof one->owners[0]) == 0 &&
@@ -95,9 +123,15 @@ int store_same(const struct store *one, const struct store *other)
                   one->slots * RIDGE_BLOCK_BYTES) == 0;
 }
 
-static size_t packed_bytes(uint64_t slots)
+/* What stands before the record. */
+static size_t head_bytes(uint32_t layout)
 {
-    return HEAD_BYTES + STORE_RECORD_BYTES +
+    return COUNTS_BYTES + (layout == LAYOUT_WITHOUT_FORMAT ? 0 : FORMAT_BYTES);
+}
+
+static size_t packed_bytes(uint32_t layout, uint64_t slots)
+{
+    return head_bytes(layout) + STORE_RECORD_BYTES +
            (NUMBER_BYTES + RIDGE_BLOCK_BYTES) * (size_t)slots;
 }
 
@@ -157,10 +191,11 @@ size_t store_pack(const struct store *store, uint8_t *bytes)
 {
     put_number(bytes, store->slots, 4);
     put_number(bytes + 4, RECORD_NUMBERS, 4);
-    uint8_t *at = put_record(bytes + HEAD_BYTES, &store->unit);
+    uint8_t *at = put_numbers(bytes + COUNTS_BYTES, &store->format, 1);
+    at = put_record(at, &store->unit);
     at = put_numbers(at, store->owners, store->slots);
     memcpy(at, store->medium, store->slots * RIDGE_BLOCK_BYTES);
-    return packed_bytes(store->slots);
+    return packed_bytes(STORE_LAYOUT, store->slots);
 }
 
 /* Every command tests the whole state first. INQUIRY of no byte changes
@@ -175,24 +210,39 @@ static int is_usable(struct store *store)
     return store_execute(store, &call) == RIDGE_GOOD;
 }
 
+/* Gives NULL, or why the head's format is none. */
+static const char *take_format(const uint8_t *bytes, uint32_t layout,
+                               uint64_t *format)
+{
+    *format = layout == LAYOUT_WITHOUT_FORMAT
+                  ? RIDGE_FIXED
+                  : number_at(bytes + COUNTS_BYTES, FORMAT_BYTES);
+    return *format == RIDGE_FIXED || *format == RIDGE_DESCRIPTOR
+               ? NULL
+               : "its format of sense is neither fixed nor descriptor";
+}
+
 const char *store_unpack(struct store *store, uint32_t layout,
                          const uint8_t *bytes, size_t count)
 {
     memset(store, 0, sizeof *store);
-    if (layout != STORE_LAYOUT)
+    if (layout != LAYOUT_WITHOUT_FORMAT && layout != STORE_LAYOUT)
         return "its store is in a layout that this program does not know";
-    if (count < HEAD_BYTES)
+    if (count < head_bytes(layout))
         return "its store is cut short";
     uint64_t slots = number_at(bytes, 4), numbers = number_at(bytes + 4, 4);
     if (slots < 1 || slots > RIDGE_SLOTS)
         return "its number of slots is out of bounds";
-    if (numbers != RECORD_NUMBERS || count != packed_bytes(slots))
+    if (numbers != RECORD_NUMBERS || count != packed_bytes(layout, slots))
         return "its store does not have the length that its slots need";
-    const char *wrong = take_record(bytes + HEAD_BYTES, &store->unit);
+    const uint8_t *record = bytes + head_bytes(layout);
+    const char *wrong = take_format(bytes, layout, &store->format);
+    if (wrong == NULL)
+        wrong = take_record(record, &store->unit);
     if (wrong != NULL)
         return wrong;
     store->slots = (size_t)slots;
-    const uint8_t *at = take_numbers(bytes + HEAD_BYTES + STORE_RECORD_BYTES,
+    const uint8_t *at = take_numbers(record + STORE_RECORD_BYTES,
                                      store->owners, store->slots);
     memcpy(store->medium, at, store->slots * RIDGE_BLOCK_BYTES);
     return is_usable(store) ? NULL : "its store is not in a valid state";

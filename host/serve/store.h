@@ -11,41 +11,44 @@
 
 enum {
     /* The layout of a store in bytes that store_pack writes. */
-    STORE_LAYOUT = 1,
-    STORE_SENSE_BYTES = RIDGE_SENSE_BYTES,
+    STORE_LAYOUT = 2,
+    /* Enough for either format. */
+    STORE_SENSE_BYTES = RIDGE_DESCRIPTOR_SENSE_BYTES,
+    STORE_HEAD_BYTES = 16,
     STORE_RECORD_BYTES = 160,
-    STORE_BYTES_MOST = 8 + STORE_RECORD_BYTES +
+    STORE_BYTES_MOST = STORE_HEAD_BYTES + STORE_RECORD_BYTES +
                        (8 + RIDGE_BLOCK_BYTES) * RIDGE_SLOTS
 };
 
 struct store {
+    uint64_t format; /* of its sense, enum ridge_format */
     struct ridge_unit unit;
     uint64_t owners[RIDGE_SLOTS];
     uint8_t medium[RIDGE_SLOTS * RIDGE_BLOCK_BYTES];
     size_t slots;
 };
 
-/* One command and the buffers lent to it. `returned` and what lies in data_in
-   and sense afterwards are the store's. */
+/* One command and the buffers lent to it. `returned`, `sense_bytes` and what
+   lies in data_in and sense afterwards are the store's. */
 struct store_call {
     uint64_t nexus;
     const uint8_t *cdb, *data_out;
     uint8_t *data_in;
     size_t cdb_bytes, data_out_bytes, data_in_bytes;
     uint8_t sense[STORE_SENSE_BYTES];
+    size_t sense_bytes; /* that the answer comes with */
     uint64_t returned;
 };
 
-/* Gives 1 exactly if the bounds are good; else nothing is made. */
-int store_fresh(struct store *store, uint64_t capacity, uint64_t slots);
+/* Gives 1 exactly if format and bounds are good; else nothing is made. */
+int store_fresh(struct store *store, uint64_t capacity, uint64_t format,
+                uint64_t slots);
 
 /* Gives the answer number. */
 uint64_t store_execute(struct store *store, struct store_call *call);
 
-/* How many sense bytes an answer comes with. */
-size_t store_sense_bytes(uint64_t answer);
-
 uint64_t store_capacity(const struct store *store);
+uint64_t store_format(const struct store *store);
 size_t store_slots(const struct store *store);
 size_t store_slots_used(const struct store *store);
 int store_same(const struct store *one, const struct store *other);

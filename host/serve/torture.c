@@ -9,7 +9,8 @@
    the store is kept here by the same library. Every answer must be the copy's.
    After the kill the image must be a whole one, and its store exactly the copy,
    or the copy after the one command that was sent and not answered. The next
-   server must then answer from that store.
+   server must then answer from that store. The store has descriptor sense,
+   which no server falls back to: one that forgets the format shows.
 
    Prints what was killed when; ends with 0 exactly if all was as it must be. */
 #define _GNU_SOURCE
@@ -36,7 +37,7 @@ enum {
     WORDS_MOST = 64,
     BLOCKS_MOST = 16,
     NEXUSES = 4,
-    OPTIONS_ADDED = 10,
+    OPTIONS_ADDED = 12,
     START_SECONDS = 60,
     CALLS_A_ROUND = 12, /* about as many before a kill */
     DATA_BYTES = CAPACITY * RIDGE_BLOCK_BYTES
@@ -195,7 +196,7 @@ static void hold_to_copy(const struct store_call *asked, const struct ask *ask)
     struct store was = copy;
     uint64_t answer = store_execute(&copy, &call);
     if (ask->reply.answer != answer || ask->reply.returned != call.returned ||
-        ask->reply.sense_bytes != store_sense_bytes(answer) ||
+        ask->reply.sense_bytes != call.sense_bytes ||
         memcmp(ask->sense, call.sense, ask->reply.sense_bytes) != 0 ||
         memcmp(heard, data_in, (size_t)call.returned) != 0)
         fail("an answer that is not the store's", "");
@@ -441,7 +442,8 @@ static void set_words(char **words)
     static char capacity[16], slots[16];
     char *added[OPTIONS_ADDED] = {"--socket", socket_path, "--image", image_path,
                                   "--capacity", capacity, "--slots", slots,
-                                  "--until-input-ends", NULL};
+                                  "--sense", "descriptor", "--until-input-ends",
+                                  NULL};
     size_t count = 0;
     snprintf(capacity, sizeof capacity, "%d", CAPACITY);
     snprintf(slots, sizeof slots, "%d", SLOTS);
@@ -476,7 +478,7 @@ int main(int count, char **words)
     set_words(words + 4);
     sigaction(SIGALRM, &action, NULL);
     signal(SIGPIPE, SIG_IGN);
-    if (!store_fresh(&copy, CAPACITY, SLOTS))
+    if (!store_fresh(&copy, CAPACITY, RIDGE_DESCRIPTOR, SLOTS))
         fail("a fresh store", "refused");
     /* The image must be there before the first kill may come. */
     end_in_order();

@@ -42,4 +42,5 @@ pub mod Places
 pub mod Pointed
 pub mod WrongPointers
 pub mod Sensed
+pub mod WrongSense
 pub mod Proved

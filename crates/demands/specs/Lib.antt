@@ -26,4 +26,5 @@ pub mod WrongLimits
 pub mod Pointed
 pub mod WrongPointers
 pub mod Sensed
+pub mod WrongSense
 pub mod Proved

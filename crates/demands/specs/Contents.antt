@@ -127,7 +127,7 @@ pub record SaysSame {m : Move} {c d : Call} (a : Asks m c) (b : Asks m d) : Type
   pub sense : c .sense ≡ d .sense
 
 -- results that are the same but for the place of a wrong field, which Q-4 has told and each form has elsewhere: the same number, and where it is not 2
--- all that is seen, and the store. Where it is 2, demand 1 and `codes` of Pointed leave nothing else open
+-- all that is seen, and the store. Where it is 2, `sense-table` of demand 1 leaves nothing else open
 pub record SameButPlace (x y : Result) : Type 0 where
   pub number : numberOf (x .seen .answer) ≡ numberOf (y .seen .answer)
   pub same : numberOf (x .seen .answer) ≢ 2 → x ≡ y

@@ -36,18 +36,15 @@ pub fn execute(
         return act::answered(Answer::Unusable, unit);
     }
     let asked = stages::asked(unit, nexus, cdb);
-    match asked {
-        Decoded::Wrong(answer) => {
-            put_sense(format, answer, sense);
-            act::answered(answer, unit)
-        }
+    let outcome = match asked {
+        Decoded::Wrong(answer) => act::answered(answer, unit),
         Decoded::Asks(request) => {
-            let outcome = act::act(request, unit, owners, medium, nexus, data_out, data_in);
-            let answer = outcome.answer;
-            put_sense(format, answer, sense);
-            outcome
+            act::act(request, unit, owners, medium, nexus, data_out, data_in)
         }
-    }
+    };
+    let answer = outcome.answer;
+    put_sense(format, answer, sense);
+    outcome
 }
 
 // A unit without registration and reservation.

@@ -3,36 +3,34 @@
 use mathlib.Core.Path.{_≡_, refl, sym, ap, _∙_, subst}
 use mathlib.Core.Logic.{_≢_}
 use mathlib.Core.Bool.{Bool, true, false, not, true≢false}
-use mathlib.Core.List.{List, [], _∷_, _++_}
+use mathlib.Core.List.{List, [], _∷_}
 use Prim.Native.Nat.{ℕ, _+_, _*_, _-_, _/_, _%_, _^_, _≤_, _<_}
 use native.Mathlib.Nat.{mod-eq-of-lt}
 use native.Mathlib.Omega.{arith}
-use borrow.Author.Tests.{ltb-false, eq-eqb, ne-eqb}
+use borrow.Author.Tests.{eq-eqb, ne-eqb}
 use lib.Dec.{T, lit<, eqb, leb, ltb, leb→le, ltb→lt}
-use lib.ListN.{length, take, drop}
-use Rattle.fields.specs.Field.{byte, bit, field, bytes}
+use lib.ListN.{length}
+use Rattle.fields.specs.Field.{byte, bit, field}
 use Rattle.fields.specs.Bits.{Bits, firstByte, topBit, bitCount, AgreeIn}
 use Rattle.fields.proofs.Tests.{and-l, and-r, true→T, false→T}
-use Rattle.fields.proofs.BytesLaws.{put-front}
-use Rattle.fields.proofs.FieldLaws.{field-drop, field-bytes}
 use Rattle.answers.specs.declared.Refusal.{Refusal}
 use Rattle.answers.specs.declared.Refusal.the-variants.{NotListed, InvalidField, OutOfRange, ListLength, ListField, NoPlace, OtherType, NoRoom}
 use Rattle.answers.specs.declared.Answer.{Answer}
-use Rattle.answers.specs.declared.Answer.the-variants.{Good, Refused, Conflict, Unusable, Short}
+use Rattle.answers.specs.declared.Answer.the-variants.{Good, Refused, Unusable}
 use Rattle.answers.specs.Answers.{codesOf, numberOf, notListed, invalidField, listField}
 use Rattle.answers.specs.Sense.{detailOf}
 use Rattle.answers.specs.Order.{Row, _if_, first, next, refuses, refusing, firstOf, refusingBy}
-use Rattle.answers.proofs.OrderLaws.{row-pass, row-end, next-after, row-fails, rows-after, next-refuses, next-refused, not-good}
+use Rattle.answers.proofs.OrderLaws.{row-pass, row-end, next-after, next-refuses, next-refused, not-good}
 use Rattle.forms.specs.declared.Code.{Code}
 use Rattle.forms.specs.declared.Entry.{Entry}
 use Rattle.forms.specs.declared.Entry.the-variants.{Listed, Unlisted}
-use Rattle.forms.specs.Forms.{actionBits, entryOf, Asked, nothing, asks, askedOf}
+use Rattle.forms.specs.Forms.{entryOf, Asked, nothing, asks, askedOf}
 use Rattle.forms.specs.Tests.{isUnlisted, codeRows, lengthRows, fieldRows}
 use Rattle.forms.proofs.Refusing.{field-refusing}
-use Rattle.store.specs.Store.{Store, Call, usable, seenOf}
+use Rattle.store.specs.Store.{Store, Call, usable}
 use Rattle.store.specs.Step.{callRows, ownRows, step, answerTo}
 use Rattle.store.proofs.Parts.{callAnswer, storeAnswer, codeAnswer, lengthAnswer, fieldAnswer, guardAnswer, ownAnswer, parts, from-fields, cleared, itself-cleared}
-use Rattle.store.proofs.StoreLaws.{step-answer, step-seen}
+use Rattle.store.proofs.StoreLaws.{step-answer}
 use Rattle.commands.proofs.StageLaws.{long-within}
 use Rattle.demands.specs.Contents.{byItself}
 use Rattle.demands.specs.Limits.{Heard}

@@ -9,7 +9,7 @@ use native.Mathlib.Nat.{mod-eq-of-lt}
 use native.Mathlib.Omega.{arith}
 use borrow.Author.Tests.{eqb-true, leb-true}
 use lib.Dec.{T, lit<, eqb, leb}
-use lib.ListN.{length, take}
+use lib.ListN.{length}
 use Rattle.fields.specs.Field.{byte, bit, field, bytes}
 use Rattle.fields.proofs.FieldLaws.{field-drop, field-bytes}
 use Rattle.answers.specs.declared.Refusal.{Refusal}

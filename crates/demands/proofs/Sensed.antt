@@ -1,18 +1,17 @@
 -- Sense data in both formats, proved of `step`: what a host reads is what was meant, and the address is the one that the request names.
 -- Assumes nothing.
 use mathlib.Core.Path.{_≡_, refl, sym, ap, _∙_, subst}
-use mathlib.Core.Logic.{_≢_, _⊎_}
+use mathlib.Core.Logic.{_≢_}
 use mathlib.Core.Bool.{Bool, true, false, not, _&&_, _||_, cond, false≢true}
-use mathlib.Core.List.{List, [], _∷_, _++_}
-use Prim.Native.Nat.{ℕ, zero, suc, _+_, _%_, _^_, _≤_, _<_}
+use mathlib.Core.List.{List, [], _∷_}
+use Prim.Native.Nat.{ℕ, zero, suc, _+_, _^_, _≤_, _<_}
 use native.Mathlib.Nat.{mod-eq-of-lt}
-use native.Mathlib.Omega.{arith}
-use borrow.Author.Tests.{ltb-true, ltb-false, lt-ltb, le-ltb, le-leb, lt-leb, eq-eqb}
-use lib.Dec.{T, lit<, lit≤, eqb, leb, ltb, le→leb}
-use lib.ListN.{length, drop}
-use Rattle.fields.specs.Field.{byte, field}
-use Rattle.fields.specs.Bits.{Bits, whole, numberIn}
-use Rattle.fields.proofs.Tests.{both, not-map, and-l, true→T}
+use borrow.Author.Tests.{ltb-true, ltb-false, lt-ltb, le-ltb, le-leb, lt-leb}
+use lib.Dec.{T, lit<, lit≤, leb, ltb, le→leb}
+use lib.ListN.{length}
+use Rattle.fields.specs.Field.{field}
+use Rattle.fields.specs.Bits.{numberIn}
+use Rattle.fields.proofs.Tests.{both, not-map, and-l}
 use Rattle.fields.proofs.FieldLaws.{field-below, below-64}
 use Rattle.answers.specs.declared.Refusal.{Refusal}
 use Rattle.answers.specs.declared.Refusal.the-variants.{NotListed, InvalidField, OutOfRange, ListLength, ListField, NoPlace, OtherType, NoRoom}
@@ -20,12 +19,11 @@ use Rattle.answers.specs.declared.Answer.{Answer}
 use Rattle.answers.specs.declared.Answer.the-variants.{Good, Refused, Conflict, Unusable, Short}
 use Rattle.answers.specs.Answers.{codesOf, numberOf, outOfRange, noRoom, listLength, listField}
 use Rattle.answers.specs.Order.{Row, _if_, first, next, firstOf, refuses}
-use Rattle.answers.specs.Sense.{fixed, descriptor, formatOk, senseBytes, senseData, senseWritten}
+use Rattle.answers.specs.Sense.{fixed, descriptor, formatOk, senseBytes, senseWritten}
 use Rattle.answers.proofs.OrderLaws.{next-refuses}
 use Rattle.descriptors.specs.declared.Failing.the-variants.{At as Told}
 use Rattle.descriptors.specs.Descriptors.{descriptorAt, dataLengthBits, mostDescriptors, considered, fails, firstFailing, addressOf as addressAt, someFails}
-use Rattle.descriptors.proofs.Takes.{first-here, first-later, passes-within}
-use Rattle.forms.specs.declared.Field.{Field}
+use Rattle.descriptors.proofs.Takes.{first-here, first-later}
 use Rattle.forms.specs.declared.Field.the-variants.{Two, Four, Eight}
 use Rattle.forms.specs.declared.Span.{Span}
 use Rattle.forms.specs.declared.Span.the-variants.{Absent, At}
@@ -34,19 +32,19 @@ use Rattle.forms.specs.declared.Move.the-variants.{Read, Write, WriteSame, Unma
 use Rattle.forms.specs.declared.Command.{Command}
 use Rattle.forms.specs.declared.Command.the-variants.{Tells, Moves, Alters}
 use Rattle.forms.specs.declared.Request.{Request}
-use Rattle.forms.specs.Forms.{entryOf, bytesOf, spanBits, number, requestBy, Asked, nothing, asks, askedOf, listLengthIn}
-use Rattle.forms.proofs.Fields.{Row as TableRow, asked-row}
+use Rattle.forms.specs.Forms.{bytesOf, spanBits, number, requestBy, Asked, nothing, asks, askedOf, listLengthIn}
+use Rattle.forms.proofs.Fields.{asked-row}
 use Rattle.pool.specs.Pool.{Pool}
 use Rattle.store.specs.Store.{Store, Call, usable}
 use Rattle.store.specs.Tell.{tellRows}
 use Rattle.store.specs.Move.{readRows, writeRows, sameRows, unmapRows, statusRows, moveRows}
 use Rattle.store.specs.Alter.{alterRows}
-use Rattle.store.specs.Step.{callRows, commandRows, ownRows, step, answerTo}
-use Rattle.store.proofs.Parts.{callAnswer, storeAnswer, codeAnswer, lengthAnswer, fieldAnswer, guardAnswer, ownAnswer, parts}
+use Rattle.store.specs.Step.{callRows, commandRows, ownRows, step}
+use Rattle.store.proofs.Parts.{callAnswer, ownAnswer, parts}
 use Rattle.store.proofs.StoreLaws.{step-answer}
 use Rattle.demands.specs.Contents.{Asks, addressIn, descriptorsFrom, descriptorsOf}
 use Rattle.demands.specs.Pointed.{AreBytes}
-use Rattle.demands.specs.SenseRead.{senseLong, Information, absent, present, fixedValid, fixedField, informationIn}
+use Rattle.demands.specs.SenseRead.{senseLong, Information, absent, present, informationIn}
 use Rattle.demands.specs.Sensed.{ReadsAs, addressOf, allInside, FirstFails, withSense, Sensed}
 use Rattle.demands.proofs.Usable.{format-after}
 use Rattle.demands.proofs.Fresh.{unusable-eleven}
@@ -308,7 +306,7 @@ failing-below capacity list h at (suc n) = go (fails capacity (descriptorAt list
     go false k = k
 
 -- the address in an answer
-unfoldable toldIn : Answer → Information
+unfoldable pub toldIn : Answer → Information
 toldIn Good = absent
 toldIn (Refused x) = addressOf x
 toldIn Conflict = absent

@@ -13,7 +13,7 @@ use Rattle.fields.specs.Bits.{numberIn}
 use Rattle.fields.proofs.Tests.{by-equal, T-true}
 use Rattle.answers.specs.declared.Answer.the-variants.{Conflict}
 use Rattle.answers.specs.Answers.{noPlace}
-use Rattle.answers.specs.Order.{_if_, firstOf}
+use Rattle.answers.specs.Order.{firstOf}
 use Rattle.answers.proofs.OrderLaws.{row-pass, row-end}
 use Rattle.answers.specs.Sense.{formatOk, fixed}
 use Rattle.rights.specs.declared.Place.{Place}

@@ -5,33 +5,30 @@ use mathlib.Core.Path.{_≡_, refl, sym, ap, _∙_}
 use mathlib.Core.Logic.{⊎-elim}
 use mathlib.Core.Bool.{Bool, true, false, true≢false}
 use mathlib.Core.List.{List, [], _∷_, _++_}
-use Prim.Native.Nat.{ℕ, _+_, _^_, _≤_, _<_}
+use Prim.Native.Nat.{ℕ, _+_, _^_}
 use native.Mathlib.Omega.{arith}
-use borrow.Author.Tests.{leb-true}
 use lib.Dec.{T, leb}
-use lib.ListN.{length}
 use Rattle.fields.specs.Field.{byte}
 use Rattle.fields.specs.Bits.{within}
 use Rattle.fields.proofs.Tests.{and-l, T-true}
-use Rattle.answers.specs.declared.Refusal.{Refusal}
 use Rattle.answers.specs.declared.Refusal.the-variants.{OutOfRange}
 use Rattle.answers.specs.declared.Answer.{Answer}
-use Rattle.answers.specs.declared.Answer.the-variants.{Good, Refused, Conflict, Unusable, Short}
-use Rattle.answers.specs.Answers.{codesOf, numberOf, notListed, invalidField, outOfRange}
-use Rattle.answers.specs.Sense.{senseWritten, senseAfter}
+use Rattle.answers.specs.declared.Answer.the-variants.{Refused}
+use Rattle.answers.specs.Answers.{codesOf, numberOf, invalidField, outOfRange}
+use Rattle.answers.specs.Sense.{senseAfter}
 use Rattle.descriptors.specs.declared.Descriptor.{Descriptor}
 use Rattle.forms.specs.declared.Move.the-variants.{Unmap}
-use Rattle.store.specs.Store.{Store, Call}
 use Rattle.demands.specs.Demands.{Demand1}
 use Rattle.demands.specs.Contents.{Asks, transferCdb, cdb16, descriptorsFrom, descriptorsOf}
 use Rattle.demands.specs.Pointed.{Pointed}
 use Rattle.demands.specs.SenseRead.{responseCode, isDescriptor, findType, descriptorIn, Information, absent, present, fixedValid, fixedField, specific, sksv}
-use Rattle.demands.specs.Sensed.{addressOf, allInside, FirstFails, Sensed}
+use Rattle.demands.specs.Sensed.{addressOf, allInside, Sensed}
 use Rattle.demands.specs.SenseCases.{inFormat}
 use Rattle.demands.specs.WrongBuilds.{shown, showing}
 use Rattle.demands.specs.WrongPointers.{answers, sensed}
 use Rattle.demands.specs.WrongSense.{clipped, lastFails, lastTold, placeAsAddress, clearedPast, shownDescribed, readsFar, unmapsTwo, marked, controlled, unknown}
 use Rattle.demands.proofs.Computing.{meaning}
+use Rattle.demands.proofs.Sensed.{toldIn}
 
 -- ---- a clipped address
 
@@ -74,14 +71,7 @@ nine-told : lastTold shown unmapsTwo .seen .answer ≡ outOfRange 9
 unfolding meaning shown showing unmapsTwo answers lastTold lastFails allInside descriptorsFrom
 nine-told = refl
 
--- the address in an answer, and of the first of a list of descriptors
-unfoldable addressIn : Answer → Information
-addressIn Good = absent
-addressIn (Refused x) = addressOf x
-addressIn Conflict = absent
-addressIn Unusable = absent
-addressIn Short = absent
-
+-- the address of the first of a list of descriptors, and whether it ends within 8 blocks
 unfoldable firstIn : List Descriptor → ℕ
 firstIn [] = 0
 firstIn (d ∷ ds) = d .address .0
@@ -115,12 +105,12 @@ unfolding numberOf codesOf
 nine-number = ap numberOf nine-told
 
 pub last-told-fails : Sensed lastTold → ⊥
-unfolding shown addressIn addressOf numberIn
+unfolding shown toldIn addressOf numberIn
 last-told-fails p =
     let law = p .unmap-address shown unmapsTwo unmap-asked nine-number in
     let first = law .2 in
     let begins = sym (first .begins) ∙ first-begins (first .before) (first .behind) (first .failing) (first .list) (first .inside) in
-    let told = ap (λ (a : Answer). numberIn (addressIn a)) (sym nine-told ∙ law .1) in
+    let told = ap (λ (a : Answer). numberIn (toldIn a)) (sym nine-told ∙ law .1) in
     omega (arith, begins, told)
 
 -- ---- a place told as an address

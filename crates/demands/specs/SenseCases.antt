@@ -7,7 +7,7 @@ use Rattle.fields.specs.Field.{bytes}
 use Rattle.answers.specs.declared.Status.the-variants.{Given}
 use Rattle.answers.specs.Sense.{descriptor}
 use Rattle.store.specs.Store.{Store, Call}
-use Rattle.demands.specs.Checker.{Want, good, lays, refused, pastEndAt, noRoomAt, no-status, Case, _gives_}
+use Rattle.demands.specs.Checker.{Want, good, lays, refused, pastEndAt, no-status, Case, _gives_}
 use Rattle.demands.specs.Bench.{block, new, lent, ready, cdb-10, cdb-16, descriptor as entry}
 use Rattle.demands.specs.Cases.{caseStill, caseNew}
 

@@ -11,7 +11,7 @@ use Rattle.answers.specs.Answers.{outOfRange}
 use Rattle.answers.specs.Sense.{descriptor}
 use Rattle.descriptors.specs.declared.Descriptor.{Descriptor}
 use Rattle.descriptors.specs.Descriptors.{considered}
-use Rattle.store.specs.Store.{Store, Call, Seen, seenOf}
+use Rattle.store.specs.Store.{Store, Call, seenOf}
 use Rattle.store.specs.Step.{step}
 use Rattle.demands.specs.History.{Build}
 use Rattle.demands.specs.Contents.{cdb16, callWith, descriptorsFrom}

@@ -8,10 +8,11 @@
  * seed gives the same calls on every machine.
  *
  * The two stores of a pair have the same format of sense, equal capacity,
- * registrations, reservation and generation; slots, maps and blocks differ. Both get the same reservation-out
- * calls (operation code 5Fh) and the same calls by nexuses then shut out, in
- * the same order with the same lent data and sense buffers, the whole pool lent
- * each time. Between these, each gets other calls of its own.
+ * registrations, reservation and generation; slots, maps and blocks differ.
+ * Both get the same reservation-out calls (operation code 5Fh) and the same
+ * calls by nexuses then shut out, in the same order with the same lent data and
+ * sense buffers, the whole pool lent each time. Between these, each gets other
+ * calls of its own.
  *
  * Then each of the common calls gives the same answer, returned count, data-in
  * and sense in both, to the last byte, so the place of a wrong field too, and
@@ -191,7 +192,7 @@ static bool unit_kept(const struct side *side)
     return same_unit(&side->before.unit, &side->store.unit);
 }
 
-/* Of the answer and the sense that a common call was given, in both the same. */
+/* Of the answer and the sense of a common call, the same in both. */
 static void count_common(struct run *run)
 {
     const struct side *side = &run->left;
@@ -459,7 +460,7 @@ static bool print_places(const struct figures *figures, uint64_t steps)
             snprintf(name, sizeof name, "common calls refused for %s, %s",
                      places[index].name, format_names[format]);
             enough &= print_count(name, figures->places[format][index],
-                                  steps / 20000);
+                                  steps / 40000);
         }
     }
     return enough;
@@ -479,7 +480,7 @@ static bool print_compared(const struct figures *figures, uint64_t steps)
                      answers[index], format_names[format]);
             enough &= print_count(name,
                                   figures->compared[format][answers[index]],
-                                  steps / 5000);
+                                  steps / 10000);
         }
     }
     return enough;

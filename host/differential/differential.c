@@ -381,11 +381,6 @@ static void hold_rules(struct run *run)
 
 /* ---- Making calls ---- */
 
-static bool is_format(uint64_t format)
-{
-    return format == RIDGE_FIXED || format == RIDGE_DESCRIPTOR;
-}
-
 /* Mostly the store's format; at times the other one, which is as good while the
    sense buffer is long enough for it, or none. */
 static uint64_t lend_format(struct run *run)

@@ -68,6 +68,11 @@ static uint64_t get(const uint8_t *bytes, size_t count)
 
 /* ---- Formats of sense ---- */
 
+bool is_format(uint64_t number)
+{
+    return number == RIDGE_FIXED || number == RIDGE_DESCRIPTOR;
+}
+
 uint64_t generate_format(struct random *random)
 {
     return RANDOM_CHOICE(random, RIDGE_FIXED, RIDGE_DESCRIPTOR);

@@ -91,7 +91,9 @@ void generate_registrations(struct random *random, struct ridge_rights *rights);
 void generate_reservation(struct random *random, struct ridge_rights *rights,
                           uint32_t type);
 
-/* One of the two formats of sense. */
+/* Whether the number is one of the two formats of sense, in its whole width. */
+bool is_format(uint64_t number);
+
 uint64_t generate_format(struct random *random);
 
 /* A number that is no format: one beside those, one that is a format if some of

@@ -1230,17 +1230,9 @@ static void count_reserve_out(const struct occasion *call, uint64_t *counts)
 
 /* ---- Sense, in either format ---- */
 
-/* The counts of the call's format; NULL if it has none. */
 static uint64_t *counts_of_format(uint64_t format, uint64_t *counts)
 {
-    switch (format) {
-    case RIDGE_FIXED:
-        return counts + IN_FIXED;
-    case RIDGE_DESCRIPTOR:
-        return counts + IN_DESCRIPTOR;
-    default:
-        return NULL;
-    }
+    return counts + (format == RIDGE_FIXED ? IN_FIXED : IN_DESCRIPTOR);
 }
 
 static size_t answer_index(const struct occasion *call)
@@ -1413,11 +1405,6 @@ static void count_format(const struct occasion *call, uint64_t *counts)
     default:
         break;
     }
-}
-
-static bool is_format(uint64_t number)
-{
-    return number == RIDGE_FIXED || number == RIDGE_DESCRIPTOR;
 }
 
 static size_t kind_of_wrong_format(uint64_t format)

@@ -84,14 +84,15 @@ void console_tell(struct progress *progress, uint64_t done)
             done, progress->total, progress->unit);
 }
 
-void console_store(const struct ridge_unit *unit, const uint64_t *owners,
-                   size_t slots)
+void console_store(uint64_t format, const struct ridge_unit *unit,
+                   const uint64_t *owners, size_t slots)
 {
     const struct ridge_rights *rights = &unit->rights;
 
-    printf("  capacity %" PRIX64 ", generation %" PRIX32 ", type %" PRIX32
-           ", holder %" PRIX64 "\n  places, nexus:key",
-           unit->capacity, rights->generation, rights->type, rights->holder);
+    printf("  format %" PRIX64 ", capacity %" PRIX64 ", generation %" PRIX32
+           ", type %" PRIX32 ", holder %" PRIX64 "\n  places, nexus:key",
+           format, unit->capacity, rights->generation, rights->type,
+           rights->holder);
     for (size_t place = 0; place < RIDGE_PLACES; place++)
         printf(" %" PRIX64 ":%" PRIX64, rights->places[place].nexus,
                rights->places[place].key);

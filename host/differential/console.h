@@ -37,8 +37,8 @@ struct progress console_progress(const char *program, const char *unit,
 /* Says on standard error how far the run is, once in a few seconds. */
 void console_tell(struct progress *progress, uint64_t done);
 
-/* Prints a store's record and owners, numbers in hex. */
-void console_store(const struct ridge_unit *unit, const uint64_t *owners,
-                   size_t slots);
+/* Prints a store's format, record and owners, numbers in hex. */
+void console_store(uint64_t format, const struct ridge_unit *unit,
+                   const uint64_t *owners, size_t slots);
 
 #endif

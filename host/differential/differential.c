@@ -16,16 +16,19 @@
  * data-out and guards never; 11 for each of the reasons that come first in 01's
  * order).
  *
- * Of sense all 18 bytes are compared, so the place of a wrong field too, and
- * those past them. It holds random bytes before a call, or what an answer 2 or
- * 5 left there, so that a place left over shows. And what Q-4 says of all calls
- * holds: answers 2 and 5 have a place, one within the CDB or the list, no other
- * answer has one.
+ * Stores are of both formats of sense, and all bytes lent for it are compared.
+ * It holds random bytes before a call, or what an answer 2, 3, 5 or 8 left
+ * there, so that a place or an address left over shows. And what Q-4 and Q-8
+ * say of all calls holds: sense is laid out as the store's format has it, with
+ * the key and codes of the answer; 2 and 5 have a place, one within the CDB or
+ * the list, no other answer has one; 3 and 8 have the address of the CDB, or of
+ * the first descriptor that fails, where the format holds it, no other answer
+ * has one; no byte past those is written. A format that is none is answered 11.
  *
  * Exit status: 0 no difference and every answer met often enough; 1 a
  * difference, which is printed; 2 an answer, command, take-over, cell of the
- * conflict rule, occasion of Q-1, Q-2 or Q-4 or damage too rare (asked of long
- * runs alone), bad usage.
+ * conflict rule, occasion of Q-1, Q-2, Q-4 or Q-8 or damage too rare (asked of
+ * long runs alone), bad usage.
  */
 
 #include <inttypes.h>
@@ -39,6 +42,7 @@
 #include "damage.h"
 #include "generate.h"
 #include "occasions.h"
+#include "sense.h"
 
 enum {
     CALLS_DEFAULT = 200000,
@@ -82,11 +86,12 @@ static const size_t part_offsets[PARTS] = {
     offsetof(struct world, data_out), offsetof(struct world, data_in),
     offsetof(struct world, sense)};
 
-/* What one call lends: bytes of each part, and who sends it. The store is whole
-   if nothing was spoiled; 11 is due if the call is known to be unusable, or the
-   state to be invalid, by how it was made. */
+/* What one call lends: bytes of each part, the format that it is told, and who
+   sends it. The store is whole if nothing was spoiled; 11 is due if the call is
+   known to be unusable, or the state to be invalid, by how it was made. */
 struct lending {
     size_t bytes[PARTS];
+    uint64_t format;
     uint64_t nexus;
     bool whole;
     bool due_11;
@@ -120,8 +125,9 @@ struct run {
     struct world before;
     struct world ridge;
     struct world second;
-    uint8_t sense_of_cdb[SENSE_ROOM]; /* as the last answer 2 left it */
-    uint8_t sense_of_list[SENSE_ROOM]; /* and the last 5 */
+    uint8_t sense_of_cdb[SENSE_ROOM]; /* as the last answer 2 left it, */
+    uint8_t sense_of_list[SENSE_ROOM]; /* the last 5 */
+    uint8_t sense_of_address[SENSE_ROOM]; /* and the last 3 or 8 */
     struct figures figures;
 };
 
@@ -178,7 +184,7 @@ static void print_outcome(struct run *run, const char *name,
 {
     printf("%s: answer %" PRIu64 ", returned %" PRIu64 "\n", name,
            world->answer, world->returned);
-    console_store(&world->unit, world->owners,
+    console_store(run->lending.format, &world->unit, world->owners,
                   run->lending.bytes[OWNERS] / 8);
     print_hex("data-in", world->data_in, run->lending.bytes[DATA_IN]);
     print_hex("sense", world->sense, run->lending.bytes[SENSE]);
@@ -278,33 +284,84 @@ static bool may_store(const struct run *run)
     }
 }
 
-/* What Q-4 says of every call that has sense: the field lies within what it is
-   a field of, and where there is none the four bytes are 0. */
-static void hold_place(struct run *run)
+/* What Q-4 says of the place: answers 2 and 5 have one, and the field lies
+   within what it is a field of. */
+static void hold_place(struct run *run, const struct told *told)
 {
-    const uint8_t *sense = run->ridge.sense;
-    size_t first_byte = (size_t)(sense[16] << 8 | sense[17]);
     bool of_cdb = run->ridge.answer == RIDGE_CDB_FIELD;
     bool of_list = run->ridge.answer == RIDGE_LIST_FIELD;
-    uint8_t upper_bits = of_cdb ? 0xC8 : of_list ? 0x88 : 0x00;
-    size_t bound = of_cdb    ? run->lending.bytes[CDB]
-                   : of_list ? run->lending.bytes[DATA_OUT]
-                             : 1;
+    size_t first_byte = (size_t)(told->place[1] << 8 | told->place[2]);
+    size_t bound = run->lending.bytes[of_cdb ? CDB : DATA_OUT];
 
-    if (sense[14] != 0)
-        fail(run, "byte 14 of sense is not 0");
-    if ((sense[15] & 0xF8) != upper_bits)
-        fail(run, "byte 15 of sense tells of another answer");
-    if (first_byte >= bound || (upper_bits == 0 && sense[15] != 0))
+    if (told->has_place != (of_cdb || of_list))
+        fail(run, "sense has a place, or has none, against Q-4");
+    if (!told->has_place)
+        return;
+    if ((told->place[0] & 0x40) != (of_cdb ? 0x40 : 0))
+        fail(run, "the place is told to be where it is not");
+    if (first_byte >= bound)
         fail(run, "sense points where there is no field");
+}
+
+/* The address that an answer 3 or 8 is about: that of the CDB, of UNMAP that of
+   the first descriptor that fails. */
+static uint64_t address_due(const struct run *run)
+{
+    const uint8_t *cdb = run->before.cdb;
+    const uint8_t *list = run->before.data_out;
+    const uint8_t *bytes = cdb + 2;
+    size_t count = run->lending.bytes[CDB] == 16 ? 8 : 4;
+    uint64_t address = 0;
+
+    if (cdb[0] == 0x42) {
+        bytes = list + 8 +
+                16 * failing_descriptor(list, 0, RIDGE_DESCRIPTORS,
+                                        run->before.unit.capacity);
+        count = 8;
+    }
+    while (count-- > 0)
+        address = address << 8 | *bytes++;
+    return address;
+}
+
+/* What Q-8 says of the address: fixed format leaves out one above four bytes,
+   whole. */
+static void hold_address(struct run *run, const struct told *told)
+{
+    bool due = run->ridge.answer == RIDGE_ADDRESS_RANGE ||
+               run->ridge.answer == RIDGE_POOL_FULL;
+    uint64_t address = due ? address_due(run) : 0;
+
+    if (run->lending.format == RIDGE_FIXED && address > UINT32_MAX)
+        due = false;
+    if (told->has_address != due)
+        fail(run, "sense has an address, or has none, against Q-8");
+    if (due && told->address != address)
+        fail(run, "sense has another address than the call");
+}
+
+/* What 01, Q-4 and Q-8 say of sense, whichever command it is. */
+static void hold_sense(struct run *run)
+{
+    uint64_t format = run->lending.format;
+    size_t written = sense_written(format, run->ridge.answer);
+    struct told told;
+
+    hold_unchanged(run, SENSE, written);
+    if (written == 0)
+        return;
+    if (!sense_read(format, run->ridge.sense, &told))
+        fail(run, "sense is laid out in another way than its format");
+    if (memcmp(told.codes, sense_codes(run->ridge.answer), SENSE_CODES) != 0)
+        fail(run, "key and codes of sense are those of another answer");
+    hold_place(run, &told);
+    hold_address(run, &told);
 }
 
 /* What 01 says of every call, whichever command it is. */
 static void hold_rules(struct run *run)
 {
     bool good = run->ridge.answer == RIDGE_GOOD;
-    bool has_sense = run->ridge.answer >= RIDGE_CODE_NOT_LISTED &&
-                     run->ridge.answer <= RIDGE_POOL_FULL;
 
     if (run->lending.due_11 && run->ridge.answer != RIDGE_UNUSABLE)
         fail(run, "another answer where 11 is due");
@@ -319,12 +376,23 @@ static void hold_rules(struct run *run)
     hold_unchanged(run, CDB, 0);
     hold_unchanged(run, DATA_OUT, 0);
     hold_unchanged(run, DATA_IN, (size_t)run->ridge.returned);
-    hold_unchanged(run, SENSE, has_sense ? RIDGE_SENSE_BYTES : 0);
-    if (has_sense)
-        hold_place(run);
+    hold_sense(run);
 }
 
 /* ---- Making calls ---- */
+
+/* Mostly the store's format; at times the other one, which is as good while the
+   sense buffer is long enough for it, or none. */
+static uint64_t lend_format(struct run *run)
+{
+    uint64_t kind = random_below(&run->random, 100);
+
+    if (kind < 3)
+        return generate_wrong_format(&run->random);
+    if (kind < 6)
+        return generate_format(&run->random);
+    return run->store.format;
+}
 
 static void lend_request(struct run *run)
 {
@@ -333,6 +401,7 @@ static void lend_request(struct run *run)
 
     memset(lending, 0, sizeof *lending);
     lending->nexus = request->nexus;
+    lending->format = lend_format(run);
     lending->bytes[UNIT] = sizeof run->store.unit;
     lending->bytes[OWNERS] = 8 * run->store.slots;
     lending->bytes[MEDIUM] = RIDGE_BLOCK_BYTES * run->store.slots;
@@ -341,8 +410,8 @@ static void lend_request(struct run *run)
     lending->bytes[DATA_IN] = request->data_in_bytes;
     lending->bytes[SENSE] = request->sense_bytes;
     lending->due_11 = request->nexus > RIDGE_NEXUS_LAST ||
-                      request->cdb_bytes == 0 ||
-                      request->sense_bytes < RIDGE_SENSE_BYTES;
+                      request->cdb_bytes == 0 || !is_format(lending->format) ||
+                      request->sense_bytes < sense_wanted(lending->format);
 }
 
 /* Lends another number of slots or medium bytes than the store has. */
@@ -394,7 +463,8 @@ static void mimic_behind(struct run *run)
             run->store.owners[random_below(&run->random, run->store.slots)];
 }
 
-/* The sense buffer that an answer 2 or 5 was given in, lent once more. */
+/* The sense buffer that an answer 2, 5, 3 or 8 was given in, lent once more; it
+   may have been in a store of the other format. */
 static void lend_sense_again(struct run *run)
 {
     uint64_t kind = random_below(&run->random, 100);
@@ -403,16 +473,28 @@ static void lend_sense_again(struct run *run)
         put_part(run, SENSE, run->sense_of_cdb, SENSE_ROOM);
     else if (kind < 40)
         put_part(run, SENSE, run->sense_of_list, SENSE_ROOM);
+    else if (kind < 60)
+        put_part(run, SENSE, run->sense_of_address, SENSE_ROOM);
 }
 
 static void keep_sense(struct run *run)
 {
     size_t bytes = run->lending.bytes[SENSE];
 
-    if (run->second.answer == RIDGE_CDB_FIELD)
+    switch (run->second.answer) {
+    case RIDGE_CDB_FIELD:
         memcpy(run->sense_of_cdb, run->second.sense, bytes);
-    if (run->second.answer == RIDGE_LIST_FIELD)
+        break;
+    case RIDGE_LIST_FIELD:
         memcpy(run->sense_of_list, run->second.sense, bytes);
+        break;
+    case RIDGE_ADDRESS_RANGE:
+    case RIDGE_POOL_FULL:
+        memcpy(run->sense_of_address, run->second.sense, bytes);
+        break;
+    default:
+        break;
+    }
 }
 
 /* Fills `before`, mostly with the store as it is. */
@@ -444,10 +526,10 @@ static void prepare(struct run *run)
 }
 
 typedef uint64_t execute_function(
-    struct ridge_unit *unit, uint64_t *owners, size_t slots, uint8_t *medium,
-    size_t medium_bytes, uint64_t nexus, const uint8_t *cdb, size_t cdb_bytes,
-    const uint8_t *data_out, size_t data_out_bytes, uint8_t *data_in,
-    size_t data_in_bytes, uint8_t *sense, size_t sense_bytes,
+    uint64_t format, struct ridge_unit *unit, uint64_t *owners, size_t slots,
+    uint8_t *medium, size_t medium_bytes, uint64_t nexus, const uint8_t *cdb,
+    size_t cdb_bytes, const uint8_t *data_out, size_t data_out_bytes,
+    uint8_t *data_in, size_t data_in_bytes, uint8_t *sense, size_t sense_bytes,
     uint64_t *returned);
 
 static void execute(const struct lending *lending, struct world *world,
@@ -456,8 +538,8 @@ static void execute(const struct lending *lending, struct world *world,
     const size_t *bytes = lending->bytes;
 
     world->answer = function(
-        &world->unit, world->owners, bytes[OWNERS] / 8, world->medium,
-        bytes[MEDIUM], lending->nexus, world->cdb, bytes[CDB],
+        lending->format, &world->unit, world->owners, bytes[OWNERS] / 8,
+        world->medium, bytes[MEDIUM], lending->nexus, world->cdb, bytes[CDB],
         world->data_out, bytes[DATA_OUT], world->data_in, bytes[DATA_IN],
         world->sense, bytes[SENSE], &world->returned);
 }
@@ -559,7 +641,11 @@ static void count_occasions(struct run *run)
 {
     const struct world *before = &run->before;
     const size_t *bytes = run->lending.bytes;
-    struct occasion call = {.unit = &before->unit,
+    bool sound = run->lending.whole && bytes[CDB] != 0 &&
+                 run->lending.nexus <= RIDGE_NEXUS_LAST;
+    struct occasion call = {.format = run->lending.format,
+                            .sound = sound,
+                            .unit = &before->unit,
                             .owners = before->owners,
                             .slots = bytes[OWNERS] / 8,
                             .nexus = run->lending.nexus,
@@ -624,7 +710,7 @@ static void one_call(struct run *run)
 
 /* ---- Fresh stores ---- */
 
-/* Bounds for fresh: good ones mostly, else one of them is not. */
+/* Bounds and format for fresh: good ones mostly, else one of them is not. */
 static uint64_t fresh_bounds(struct run *run)
 {
     size_t slots = generate_slots(&run->random);
@@ -632,6 +718,7 @@ static uint64_t fresh_bounds(struct run *run)
     struct lending *lending = &run->lending;
 
     memset(lending, 0, sizeof *lending);
+    lending->format = generate_format(&run->random);
     lending->bytes[UNIT] = sizeof(struct ridge_unit);
     lending->bytes[OWNERS] = 8 * slots;
     switch (random_below(&run->random, 8)) {
@@ -644,15 +731,21 @@ static uint64_t fresh_bounds(struct run *run)
         lending->bytes[OWNERS] =
             8 * (size_t)RANDOM_CHOICE(&run->random, 0, 129);
         return capacity;
+    case 2:
+    case 3:
+        lending->due_11 = true;
+        lending->format = generate_wrong_format(&run->random);
+        return capacity;
     default:
         return capacity;
     }
 }
 
-/* Makes a fresh store by both libraries; false if they refuse the bounds. */
+/* Makes a fresh store by both libraries; false if they refuse it. */
 static bool fresh_store(struct run *run)
 {
     uint64_t capacity = fresh_bounds(run);
+    uint64_t format = run->lending.format;
     size_t slots = run->lending.bytes[OWNERS] / 8;
 
     for (enum part part = 0; part < PARTS; part++)
@@ -660,16 +753,18 @@ static bool fresh_store(struct run *run)
     copy_worlds(run);
     run->ridge.returned = run->second.returned = 0;
     run->figures.fresh++;
-    run->ridge.answer =
-        ridge_fresh(capacity, &run->ridge.unit, run->ridge.owners, slots);
-    run->second.answer =
-        second_fresh(capacity, &run->second.unit, run->second.owners, slots);
+    run->ridge.answer = ridge_fresh(capacity, format, &run->ridge.unit,
+                                    run->ridge.owners, slots);
+    run->second.answer = second_fresh(capacity, format, &run->second.unit,
+                                      run->second.owners, slots);
     compare_libraries(run);
     hold_rules(run);
+    occasions_count_fresh(format, run->second.answer, run->figures.occasions);
     if (run->lending.due_11)
         return false;
     if (run->ridge.answer != RIDGE_GOOD)
         fail(run, "good bounds are refused");
+    run->store.format = format;
     run->store.slots = slots;
     keep_store(run);
     random_fill(&run->random, run->store.medium, RIDGE_BLOCK_BYTES * slots);

@@ -57,6 +57,69 @@ static void put(uint8_t *bytes, size_t count, uint64_t value)
     }
 }
 
+static uint64_t get(const uint8_t *bytes, size_t count)
+{
+    uint64_t value = 0;
+
+    while (count-- > 0)
+        value = value << 8 | *bytes++;
+    return value;
+}
+
+/* ---- Formats of sense ---- */
+
+bool is_format(uint64_t number)
+{
+    return number == RIDGE_FIXED || number == RIDGE_DESCRIPTOR;
+}
+
+uint64_t generate_format(struct random *random)
+{
+    return RANDOM_CHOICE(random, RIDGE_FIXED, RIDGE_DESCRIPTOR);
+}
+
+/* F0h and F2h are response codes with VALID set, 71h and 73h those of deferred
+   errors; 0 to 2 are what a format might be numbered by. */
+uint64_t generate_wrong_format(struct random *random)
+{
+    uint64_t format = generate_format(random);
+    uint64_t with_bit_7 = format + 0x80;
+    uint64_t of_8_bits =
+        format + (UINT64_C(1) << RANDOM_CHOICE(random, 8, 9, 15));
+    uint64_t of_16_bits =
+        format + (UINT64_C(1) << RANDOM_CHOICE(random, 16, 24, 31));
+    uint64_t of_32_bits =
+        format + (UINT64_C(1) << RANDOM_CHOICE(random, 32, 40, 63));
+    uint64_t any = 0x80 + random_below(random, UINT32_MAX);
+
+    return RANDOM_CHOICE(random, 0, 1, 2, 0x6F, 0x71, 0x73, 0x74, with_bit_7,
+                         with_bit_7, of_8_bits, of_16_bits, of_32_bits,
+                         UINT64_MAX, any);
+}
+
+size_t sense_wanted(uint64_t format)
+{
+    return format == RIDGE_DESCRIPTOR ? RIDGE_DESCRIPTOR_SENSE_BYTES
+                                      : RIDGE_SENSE_BYTES;
+}
+
+/* Mostly just what is wanted, else a little more, or much. */
+static size_t enough_sense(struct random *random, uint64_t format)
+{
+    return sense_wanted(format) +
+           (size_t)RANDOM_CHOICE(random, 0, 0, 0, 0, 1, 2, 3, 12, 232);
+}
+
+/* Mostly a byte or two too few: the other format may want no more than that. */
+static size_t too_little_sense(struct random *random, uint64_t format)
+{
+    size_t wanted = sense_wanted(format);
+    size_t any = (size_t)random_below(random, wanted);
+
+    return (size_t)RANDOM_CHOICE(random, wanted - 1, wanted - 1, wanted - 2,
+                                 wanted - 3, 0, any, any);
+}
+
 /* ---- Stores ---- */
 
 size_t generate_slots(struct random *random)
@@ -291,6 +354,7 @@ void generate_store(struct random *random, struct store *store)
 {
     struct ridge_rights *rights = &store->unit.rights;
 
+    store->format = generate_format(random);
     store->slots = generate_slots(random);
     store->unit.capacity = generate_capacity(random, store->slots);
     rights->generation = (uint32_t)RANDOM_CHOICE(
@@ -488,6 +552,18 @@ static void make_read_capacity_16(struct random *random,
         generate_size(random, allocation < 32 ? allocation : 32);
 }
 
+/* Address and count, in CDBs of ten bytes as much of them as there is room. */
+static void put_range(struct request *request, uint64_t address, uint64_t count)
+{
+    if (request->cdb_bytes == 16) {
+        put(request->cdb + 2, 8, address);
+        put(request->cdb + 10, 4, count);
+    } else {
+        put(request->cdb + 2, 4, address);
+        put(request->cdb + 7, 2, count);
+    }
+}
+
 /* Fields of READ and WRITE; returns the bytes that the blocks take. */
 static uint64_t make_transfer(struct random *random, const struct store *store,
                               struct request *request, uint8_t code)
@@ -500,14 +576,9 @@ static uint64_t make_transfer(struct random *random, const struct store *store,
     start_cdb(random, request, code, sixteen ? 16 : 10);
     if (!random_percent(random, 4))
         request->cdb[1] &= 0x1F;
-    if (sixteen) {
-        put(request->cdb + 2, 8, address);
-        put(request->cdb + 10, 4, count);
-    } else {
-        put(request->cdb + 2, 4, address);
-        put(request->cdb + 7, 2, count);
+    put_range(request, address, count);
+    if (!sixteen)
         count &= 0xFFFF;
-    }
     return (count > 129 ? 1 : count) * RIDGE_BLOCK_BYTES;
 }
 
@@ -562,6 +633,19 @@ static void put_descriptors(struct random *random, const struct store *store,
         put(bytes, 8, address);
         put(bytes + 8, 4, count);
     }
+}
+
+size_t failing_descriptor(const uint8_t *list, size_t from, size_t count,
+                          uint64_t capacity)
+{
+    for (; from < count; from++) {
+        const uint8_t *bytes = list + 8 + 16 * from;
+        uint64_t address = get(bytes, 8);
+
+        if (address > capacity || get(bytes + 8, 4) > capacity - address)
+            break;
+    }
+    return from;
 }
 
 static void make_unmap(struct random *random, const struct store *store,
@@ -682,24 +766,41 @@ static void make_inquiry_page(struct random *random, const struct store *store,
 
 /* ---- WRITE SAME ---- */
 
+static uint64_t free_slots(const struct store *store)
+{
+    uint64_t count = 0;
+
+    for (size_t slot = 0; slot < store->slots; slot++)
+        count += store->owners[slot] == 0 ? 1 : 0;
+    return count;
+}
+
+/* The blocks from that address on, as far as one command and the capacity
+   reach, of which so many are unmapped; at least one. */
+static uint64_t count_of_unmapped(const struct store *store, uint64_t address,
+                                  uint64_t unmapped)
+{
+    uint64_t count = 0;
+
+    for (; count < RIDGE_TRANSFER_BLOCKS; count++) {
+        bool mapped = is_owner(store, address + count + 1);
+
+        if (address + count == store->unit.capacity ||
+            (!mapped && unmapped == 0))
+            break;
+        unmapped -= mapped ? 0 : 1;
+    }
+    return count == 0 ? 1 : count;
+}
+
 /* As many unmapped blocks as there are free slots, or one more. */
 static void tight_range(struct random *random, const struct store *store,
                         uint64_t *address, uint64_t *count)
 {
-    uint64_t room = random_below(random, 2);
+    uint64_t more = random_below(random, 2);
 
-    for (size_t slot = 0; slot < store->slots; slot++)
-        room += store->owners[slot] == 0 ? 1 : 0;
     *address = address_within(random, store->unit.capacity);
-    for (*count = 0; *count < RIDGE_TRANSFER_BLOCKS; (*count)++) {
-        bool mapped = is_owner(store, *address + *count + 1);
-
-        if (*address + *count == store->unit.capacity || (!mapped && room == 0))
-            break;
-        room -= mapped ? 0 : 1;
-    }
-    if (*count == 0)
-        *count = 1;
+    *count = count_of_unmapped(store, *address, free_slots(store) + more);
 }
 
 /* A count of 0 is refused whatever else there is, so it is made seldom. */
@@ -769,8 +870,7 @@ static void make_write_same(struct random *random, const struct store *store,
     whole = (count > 129 ? 1 : count) * RIDGE_BLOCK_BYTES;
     start_cdb(random, request, 0x93, 16);
     put_same_flags(random, request);
-    put(request->cdb + 2, 8, address);
-    put(request->cdb + 10, 4, count);
+    put_range(request, address, count);
     put_same_block(random, request->data_out);
     request->data_out_bytes = generate_size(random, RIDGE_BLOCK_BYTES);
     if ((request->cdb[1] & 0x01) != 0 && random_percent(random, 60))
@@ -914,6 +1014,141 @@ static void make_get_lba_status(struct random *random,
     put(request->cdb + 10, 4, allocation);
     request->data_in_bytes = generate_size(
         random, allocation < available ? allocation : available);
+}
+
+/* ---- Addresses that sense is to tell ---- */
+
+/* On both sides of what four bytes hold, numbers of which four bytes would be 0
+   or another address, and those that eight bytes end with. In a store that goes
+   beyond four bytes, mostly at that bound. */
+static uint64_t told_address(struct random *random, const struct store *store)
+{
+    const uint64_t past_4 = UINT64_C(1) << 32;
+    const uint64_t top = UINT64_C(1) << 63;
+    uint64_t word = random_word(random);
+    uint64_t near = random_below(random, 300);
+
+    if (store->unit.capacity >= past_4 && random_percent(random, 50))
+        return RANDOM_CHOICE(random, UINT32_MAX, UINT32_MAX, past_4, past_4,
+                             past_4 + near);
+    return RANDOM_CHOICE(random, 0, 0, 0, near, word & UINT32_MAX,
+                         UINT32_MAX - 1, UINT32_MAX, UINT32_MAX, past_4, past_4,
+                         past_4 + near, 2 * past_4, RIDGE_CAPACITY_LAST,
+                         RIDGE_CAPACITY_LAST + near, top, UINT64_MAX,
+                         word | top);
+}
+
+/* A count that takes the range past the end, or a write past the room. */
+static uint64_t refused_count(struct random *random, const struct store *store,
+                              uint64_t address)
+{
+    uint64_t capacity = store->unit.capacity;
+
+    if (address >= capacity)
+        return 1 + random_below(random, 5);
+    if (capacity - address < RIDGE_TRANSFER_BLOCKS &&
+        random_percent(random, 50))
+        return capacity - address + 1;
+    return count_of_unmapped(store, address, free_slots(store) + 1);
+}
+
+static void make_told_transfer(struct random *random, const struct store *store,
+                               struct request *request)
+{
+    uint8_t code = (uint8_t)RANDOM_CHOICE(random, 0x28, 0x88, 0x2A, 0x2A, 0x8A,
+                                          0x8A, 0x93, 0x93);
+    uint64_t address = told_address(random, store);
+    uint64_t count;
+
+    start_cdb(random, request, code, code >= 0x80 ? 16 : 10);
+    request->cdb[1] &= code == 0x93 ? 0x06 : 0x1F;
+    if (code < 0x80)
+        address &= UINT32_MAX;
+    count = refused_count(random, store, address);
+    put_range(request, address, count);
+    request->data_in_bytes = (size_t)count * RIDGE_BLOCK_BYTES;
+    request->data_out_bytes = (size_t)count * RIDGE_BLOCK_BYTES;
+    random_fill(random, request->data_out, request->data_out_bytes);
+}
+
+static void make_told_status(struct random *random, const struct store *store,
+                             struct request *request)
+{
+    start_cdb(random, request, 0x9E, 16);
+    put_action(random, request, 0x12);
+    put(request->cdb + 2, 8, told_address(random, store));
+    request->data_in_bytes = 8 + 16 * RUNS_TOLD;
+}
+
+/* A descriptor that fails by its address, with any count, or by its count. */
+static void put_failing(struct random *random, const struct store *store,
+                        uint8_t *bytes)
+{
+    uint64_t capacity = store->unit.capacity;
+    uint64_t address = told_address(random, store);
+    uint64_t count = random_below(random, 4);
+
+    if (address <= capacity && capacity - address >= UINT32_MAX)
+        address = capacity - random_below(random, 3);
+    if (address <= capacity)
+        count = capacity - address + 1;
+    put(bytes, 8, address);
+    put(bytes + 8, 4, count);
+}
+
+static void put_fitting(struct random *random, const struct store *store,
+                        uint8_t *bytes)
+{
+    uint64_t address = address_within(random, store->unit.capacity);
+    uint64_t left = store->unit.capacity - address;
+    uint64_t count = random_below(random, 4);
+
+    put(bytes, 8, address);
+    put(bytes + 8, 4, count < left ? count : left);
+}
+
+/* Descriptors up to a certain one fit, that one fails, and behind it none does,
+   or some, or all. At times the list does not consider them all. */
+static void make_told_unmap(struct random *random, const struct store *store,
+                            struct request *request)
+{
+    size_t descriptors = (size_t)RANDOM_CHOICE(random, 1, 2, 2, 3, 4, 5, 15,
+                                               16, 16, 16);
+    size_t any = (size_t)random_below(random, descriptors);
+    size_t first = (size_t)RANDOM_CHOICE(random, 0, any, any, descriptors - 1);
+    unsigned behind = (unsigned)RANDOM_CHOICE(random, 0, 0, 50, 100);
+    uint64_t length = 8 + 16 * descriptors;
+    size_t considered = descriptors - (random_percent(random, 10) ? 1 : 0);
+
+    start_cdb(random, request, 0x42, 10);
+    request->cdb[1] &= 0xFE;
+    random_fill(random, request->data_out, length);
+    put(request->data_out + 2, 2, 16 * considered);
+    put(request->cdb + 7, 2, length);
+    request->data_out_bytes = (size_t)length;
+    for (size_t index = 0; index < descriptors; index++) {
+        uint8_t *bytes = request->data_out + 8 + 16 * index;
+
+        if (index == first ||
+            (index > first && random_percent(random, behind)))
+            put_failing(random, store, bytes);
+        else
+            put_fitting(random, store, bytes);
+    }
+}
+
+/* A call that answers 3 or 8 mostly, if no conflict comes before. */
+static void make_told(struct random *random, const struct store *store,
+                      struct request *request)
+{
+    uint64_t kind = random_below(random, 100);
+
+    if (kind < 64)
+        make_told_transfer(random, store, request);
+    else if (kind < 74)
+        make_told_status(random, store, request);
+    else
+        make_told_unmap(random, store, request);
 }
 
 /* ---- PERSISTENT RESERVE IN and OUT ---- */
@@ -1189,7 +1424,7 @@ static void make_other_code(struct random *random, const struct store *store,
 }
 
 /* How often each command is made, in parts of the sum. */
-enum { SHARES = 121 };
+enum { SHARES = 132 };
 
 static const struct {
     unsigned share;
@@ -1201,7 +1436,8 @@ static const struct {
     {16, make_write},           {10, make_unmap},
     {9, make_write_same},       {10, make_get_lba_status},
     {7, make_reserve_in},       {19, make_reserve_out},
-    {14, make_wrong_fields},    {2, make_other_code},
+    {14, make_wrong_fields},    {11, make_told},
+    {2, make_other_code},
 };
 
 static void make_any(struct random *random, const struct store *store,
@@ -1218,7 +1454,8 @@ static void make_any(struct random *random, const struct store *store,
 }
 
 /* Spoils one thing of the call, but not its nexus. */
-static void damage(struct random *random, struct request *request)
+static void damage(struct random *random, const struct store *store,
+                   struct request *request)
 {
     size_t at;
 
@@ -1236,7 +1473,7 @@ static void damage(struct random *random, struct request *request)
         request->data_out[at] ^= (uint8_t)(1 << random_below(random, 8));
         break;
     case 3:
-        request->sense_bytes = (size_t)random_below(random, RIDGE_SENSE_BYTES);
+        request->sense_bytes = too_little_sense(random, store->format);
         break;
     default:
         request->data_out_bytes = (size_t)random_below(random, 600);
@@ -1245,12 +1482,12 @@ static void damage(struct random *random, struct request *request)
     }
 }
 
-static void finish_request(struct random *random, struct request *request)
+static void finish_request(struct random *random, const struct store *store,
+                           struct request *request)
 {
-    request->sense_bytes =
-        (size_t)RANDOM_CHOICE(random, 18, 18, 18, 19, 20, 32, 252);
+    request->sense_bytes = enough_sense(random, store->format);
     if (random_percent(random, 7))
-        damage(random, request);
+        damage(random, store, request);
 }
 
 void generate_request(struct random *random, const struct store *store,
@@ -1258,7 +1495,7 @@ void generate_request(struct random *random, const struct store *store,
 {
     request->nexus = nexus;
     make_any(random, store, request);
-    finish_request(random, request);
+    finish_request(random, store, request);
 }
 
 void generate_reserve_out(struct random *random, const struct store *store,
@@ -1266,7 +1503,7 @@ void generate_reserve_out(struct random *random, const struct store *store,
 {
     request->nexus = nexus;
     make_reserve_out(random, store, request);
-    finish_request(random, request);
+    finish_request(random, store, request);
     request->cdb[0] = 0x5F;
     if (request->cdb_bytes == 0)
         request->cdb_bytes = 10;

@@ -36,6 +36,7 @@ struct random {
 
 /* A store as ridge.h describes it, with room for the largest. */
 struct store {
+    uint64_t format;
     struct ridge_unit unit;
     uint64_t owners[RIDGE_SLOTS];
     size_t slots;
@@ -90,6 +91,18 @@ void generate_registrations(struct random *random, struct ridge_rights *rights);
 void generate_reservation(struct random *random, struct ridge_rights *rights,
                           uint32_t type);
 
+/* Whether the number is one of the two formats of sense, in its whole width. */
+bool is_format(uint64_t number);
+
+uint64_t generate_format(struct random *random);
+
+/* A number that is no format: one beside those, one that is a format if some of
+   its bits are cut, or any. */
+uint64_t generate_wrong_format(struct random *random);
+
+/* The bytes of sense that a call must lend to a store of that format. */
+size_t sense_wanted(uint64_t format);
+
 /* A random valid store. */
 void generate_store(struct random *random, struct store *store);
 
@@ -125,6 +138,11 @@ bool is_shut_out(const struct ridge_rights *rights, uint64_t nexus);
 /* The bytes that an INQUIRY has to tell, of its page or of the standard data; 0
    if bit 0 of byte 1 asks for a page that is not listed. */
 uint64_t inquiry_bytes(const uint8_t *cdb);
+
+/* Of the first `count` descriptors in an UNMAP's list, the first from number
+   `from` on that reaches past the capacity; `count` if none does. */
+size_t failing_descriptor(const uint8_t *list, size_t from, size_t count,
+                          uint64_t capacity);
 
 /* A place that is used, or is not; RIDGE_PLACES if there is none. */
 size_t generate_place(struct random *random, const struct ridge_rights *rights,

@@ -8,6 +8,8 @@
 
 #include <string.h>
 
+#include "sense.h"
+
 /* What an INQUIRY of one kind came to: of the standard data, or of a page that
    is listed. */
 enum {
@@ -43,6 +45,81 @@ enum {
 
 /* Answers 0 to 8 and 10 to 12. */
 enum { ANSWERS = 12 };
+
+/* Addresses that are told, in rising order: the first three have room in four
+   bytes, and capacities end before the last. */
+enum {
+    AT_0,
+    BELOW_LAST_OF_4,
+    AT_LAST_OF_4,
+    AT_FIRST_PAST_4,
+    PAST_4,
+    FROM_TOP_BIT,
+    ADDRESSES_OF_4 = AT_FIRST_PAST_4,
+    ADDRESSES_WITHIN = FROM_TOP_BIT,
+    ADDRESSES
+};
+
+/* Which descriptors of an UNMAP fail. */
+enum {
+    FAILS_ALONE,
+    FAILS_FIRST,
+    FAILS_BETWEEN,
+    FAILS_LAST,
+    FAILS_AS_16TH,
+    SEVERAL_FAIL_FROM_FIRST,
+    SEVERAL_FAIL_FROM_LATER,
+    LOWER_FAILS_BEHIND,
+    HIGHER_FAILS_BEHIND,
+    FAILS_WITH_COUNT_0,
+    FAILS_BY_COUNT,
+    FAILS_UNCONSIDERED,
+    FAILING_OCCASIONS
+};
+
+/* So many bytes of sense, and less or more. */
+enum { SENSE_LESS, SENSE_17, SENSE_21 = SENSE_17 + 4, SENSE_MORE, SENSE_SIZES };
+
+/* What sense comes to in a store of one format. A GET LBA STATUS at 0 is never
+   out of range, and CDBs of ten bytes have four for the address. */
+enum {
+    ANSWERED,
+    READ_10_RANGE = ANSWERED + ANSWERS,
+    READ_16_RANGE = READ_10_RANGE + ADDRESSES_OF_4,
+    WRITE_10_RANGE = READ_16_RANGE + ADDRESSES,
+    WRITE_16_RANGE = WRITE_10_RANGE + ADDRESSES_OF_4,
+    SAME_RANGE = WRITE_16_RANGE + ADDRESSES,
+    UNMAP_RANGE = SAME_RANGE + ADDRESSES,
+    STATUS_RANGE = UNMAP_RANGE + ADDRESSES - 1,
+    WRITE_10_FULL = STATUS_RANGE + ADDRESSES,
+    WRITE_16_FULL = WRITE_10_FULL + ADDRESSES_OF_4,
+    SAME_FULL = WRITE_16_FULL + ADDRESSES_WITHIN,
+    FAILING = SAME_FULL + ADDRESSES_WITHIN,
+    SENSE_SIZE = FAILING + FAILING_OCCASIONS,
+    LEFT_BY_CDB = SENSE_SIZE + SENSE_SIZES,
+    LEFT_BY_LIST = LEFT_BY_CDB + ANSWERS,
+    LEFT_BY_ADDRESS = LEFT_BY_LIST + ANSWERS,
+    MADE_FRESH = LEFT_BY_ADDRESS + ANSWERS,
+    FORMAT_OCCASIONS
+};
+
+/* Numbers that are no format; cut to so many bits some of them are one. */
+enum {
+    FORMAT_0,
+    FORMAT_1,
+    FORMAT_2,
+    FORMAT_6FH,
+    FORMAT_71H,
+    FORMAT_73H,
+    FORMAT_F0H,
+    FORMAT_F2H,
+    FORMAT_OF_8_BITS,
+    FORMAT_OF_16_BITS,
+    FORMAT_OF_32_BITS,
+    FORMAT_LAST,
+    FORMAT_OTHER,
+    WRONG_FORMATS
+};
 
 enum {
     SAME_UNMAPS_BY_DATA,
@@ -164,9 +241,11 @@ enum {
     FLAGS_OF_PREEMPT,
     ZERO_KEY,
     ZERO_KEY_WITH_FLAGS,
-    LEFT_BY_CDB,
-    LEFT_BY_LIST = LEFT_BY_CDB + ANSWERS,
-    LAST_OCCASION = LEFT_BY_LIST + ANSWERS
+    IN_FIXED,
+    IN_DESCRIPTOR = IN_FIXED + FORMAT_OCCASIONS,
+    WRONG_AT_EXECUTE = IN_DESCRIPTOR + FORMAT_OCCASIONS,
+    WRONG_AT_FRESH = WRONG_AT_EXECUTE + WRONG_FORMATS,
+    LAST_OCCASION = WRONG_AT_FRESH + WRONG_FORMATS
 };
 
 _Static_assert((int)LAST_OCCASION == (int)OCCASIONS, "occasions.h has as many");
@@ -214,13 +293,82 @@ _Static_assert((int)LAST_OCCASION == (int)OCCASIONS, "occasions.h has as many");
     SET(what, "bit 6 alone"),                                      \
     SET(what, "bit 7 alone")
 
-#define LEFT_NAMES(what)                                           \
-    "answer 0 over " what, "answer 1 over " what,                  \
-    "answer 2 over " what, "answer 3 over " what,                  \
-    "answer 4 over " what, "answer 5 over " what,                  \
-    "answer 6 over " what, "answer 7 over " what,                  \
-    "answer 8 over " what, "answer 10 over " what,                 \
-    "answer 11 over " what, "answer 12 over " what
+#define ANSWER_NAMES(what)                                         \
+    "answer 0 " what, "answer 1 " what, "answer 2 " what,          \
+    "answer 3 " what, "answer 4 " what, "answer 5 " what,          \
+    "answer 6 " what, "answer 7 " what, "answer 8 " what,          \
+    "answer 10 " what, "answer 11 " what, "answer 12 " what
+
+#define AT_OF_4(what)                                              \
+    what " at 0",                                                  \
+    what " below FFFF_FFFFh",                                      \
+    what " at FFFF_FFFFh"
+#define AT_WITHIN(what)                                            \
+    AT_OF_4(what),                                                 \
+    what " at 1_0000_0000h",                                       \
+    what " above 1_0000_0000h"
+#define AT_ANY(what) AT_WITHIN(what), what " from 2^63 on"
+
+#define FAILING_NAMES(format)                                      \
+    format "UNMAP whose one descriptor fails",                     \
+    format "UNMAP of which the first alone fails",                 \
+    format "UNMAP of which one between fails alone",               \
+    format "UNMAP of which the last alone fails",                  \
+    format "UNMAP of which the 16th alone fails",                  \
+    format "UNMAP of which the first and others fail",             \
+    format "UNMAP of which several fail, not the first",           \
+    format "UNMAP where one of a lower address fails behind",      \
+    format "UNMAP where one of a higher address fails behind",     \
+    format "UNMAP where one fails with count 0",                   \
+    format "UNMAP where one fails by its count alone",             \
+    format "UNMAP good where one fails that is not considered"
+
+#define SIZE_NAMES(format)                                         \
+    format "less than 17 bytes of sense",                          \
+    format "17 bytes of sense",                                    \
+    format "18 bytes of sense",                                    \
+    format "19 bytes of sense",                                    \
+    format "20 bytes of sense",                                    \
+    format "21 bytes of sense",                                    \
+    format "more than 21 bytes of sense"
+
+#define FORMAT_NAMES(format, in)                                   \
+    ANSWER_NAMES(in),                                              \
+    AT_OF_4(format "READ(10) out of range"),                       \
+    AT_ANY(format "READ(16) out of range"),                        \
+    AT_OF_4(format "WRITE(10) out of range"),                      \
+    AT_ANY(format "WRITE(16) out of range"),                       \
+    AT_ANY(format "WRITE SAME out of range"),                      \
+    AT_ANY(format "UNMAP out of range"),                           \
+    format "status out of range below FFFF_FFFFh",                 \
+    format "status out of range at FFFF_FFFFh",                    \
+    format "status out of range at 1_0000_0000h",                  \
+    format "status out of range above 1_0000_0000h",               \
+    format "status out of range from 2^63 on",                     \
+    AT_OF_4(format "WRITE(10) out of room"),                       \
+    AT_WITHIN(format "WRITE(16) out of room"),                     \
+    AT_WITHIN(format "WRITE SAME out of room"),                    \
+    FAILING_NAMES(format),                                         \
+    SIZE_NAMES(format),                                            \
+    ANSWER_NAMES(in " over the place of a CDB field"),             \
+    ANSWER_NAMES(in " over the place of a list field"),            \
+    ANSWER_NAMES(in " over an address"),                           \
+    "a fresh store " in
+
+#define WRONG_FORMAT_NAMES(by)                                     \
+    "format 0 refused " by,                                        \
+    "format 1 refused " by,                                        \
+    "format 2 refused " by,                                        \
+    "format 6Fh refused " by,                                      \
+    "format 71h refused " by,                                      \
+    "format 73h refused " by,                                      \
+    "format F0h refused " by,                                      \
+    "format F2h refused " by,                                      \
+    "a format in 8 of its bits alone refused " by,                 \
+    "a format in 16 of its bits alone refused " by,                \
+    "a format in 32 of its bits alone refused " by,                \
+    "format 2^64 - 1 refused " by,                                 \
+    "another number for a format refused " by
 
 static const char *const names[OCCASIONS] = {
     "WRITE SAME unmaps by a zero block",
@@ -351,8 +499,10 @@ static const char *const names[OCCASIONS] = {
     "PREEMPT good with flags",
     "PREEMPT refused for the zero key",
     "PREEMPT refused for the zero key, with flags",
-    LEFT_NAMES("the place of a CDB field"),
-    LEFT_NAMES("the place of a list field"),
+    FORMAT_NAMES("fixed: ", "in fixed format"),
+    FORMAT_NAMES("descriptor: ", "in descriptor format"),
+    WRONG_FORMAT_NAMES("by a call"),
+    WRONG_FORMAT_NAMES("for a fresh store"),
 };
 
 static uint64_t number(const uint8_t *bytes, size_t count)
@@ -990,19 +1140,13 @@ static void count_cdb_fields(const struct occasion *call, uint64_t *counts)
 
 /* ---- Parameter lists ---- */
 
-/* Whether one of the descriptors in the list reaches past the end. */
-static bool reaches_past(const struct occasion *call, uint64_t descriptors)
+/* Of so many descriptors in the list, the first from there on that reaches past
+   the end; their number if none does. */
+static size_t next_failing(const struct occasion *call, size_t from,
+                           size_t descriptors)
 {
-    uint64_t capacity = call->unit->capacity;
-
-    for (uint64_t index = 0; index < descriptors; index++) {
-        const uint8_t *bytes = call->data_out + 8 + 16 * index;
-        uint64_t address = number(bytes, 8);
-
-        if (address > capacity || number(bytes + 8, 4) > capacity - address)
-            return true;
-    }
-    return false;
+    return failing_descriptor(call->data_out, from, descriptors,
+                              call->unit->capacity);
 }
 
 static void count_unmap(const struct occasion *call, uint64_t *counts)
@@ -1026,7 +1170,7 @@ static void count_unmap(const struct occasion *call, uint64_t *counts)
         return;
     counts[named == 17 || lent == 17 ? UNMAP_17_REFUSED
                                      : UNMAP_MORE_REFUSED]++;
-    if (reaches_past(call, RIDGE_DESCRIPTORS))
+    if (next_failing(call, 0, RIDGE_DESCRIPTORS) != RIDGE_DESCRIPTORS)
         counts[UNMAP_17_BEFORE_RANGE]++;
 }
 
@@ -1084,23 +1228,214 @@ static void count_reserve_out(const struct occasion *call, uint64_t *counts)
         count_flags_ignored(call, action, counts);
 }
 
-/* ---- What the sense buffer held ---- */
+/* ---- Sense, in either format ---- */
 
-/* The place of an earlier answer 2 or 5, if it holds one: an answer with sense
-   must cover it, one without must leave it. */
+static uint64_t *counts_of_format(uint64_t format, uint64_t *counts)
+{
+    return counts + (format == RIDGE_FIXED ? IN_FIXED : IN_DESCRIPTOR);
+}
+
+static size_t answer_index(const struct occasion *call)
+{
+    return (size_t)(call->answer < 9 ? call->answer : call->answer - 1);
+}
+
+/* What the sense buffer held: the place or the address of an earlier answer in
+   the same format, which an answer with sense must cover as far as it writes,
+   and one without must leave. */
 static void count_left(const struct occasion *call, uint64_t *counts)
 {
-    const uint8_t *sense = call->sense;
-    size_t answer = (size_t)(call->answer < 9 ? call->answer
-                                              : call->answer - 1);
+    size_t answer = answer_index(call);
+    struct told left;
 
-    if (call->sense_bytes < RIDGE_SENSE_BYTES || sense[0] != 0x70 ||
-        (sense[15] & 0x88) != 0x88)
+    if (call->sense_bytes < sense_wanted(call->format) ||
+        !sense_read(call->format, call->sense, &left))
         return;
-    if (sense[12] == 0x24)
+    if (left.has_place && left.codes[1] == 0x24)
         counts[LEFT_BY_CDB + answer]++;
-    if (sense[12] == 0x26)
+    if (left.has_place && left.codes[1] == 0x26)
         counts[LEFT_BY_LIST + answer]++;
+    if (left.has_address)
+        counts[LEFT_BY_ADDRESS + answer]++;
+}
+
+/* Where sense is long enough, only answers that wrote to it tell. */
+static void count_sense_size(const struct occasion *call, uint64_t *counts)
+{
+    size_t bytes = call->sense_bytes;
+    bool refused = bytes < sense_wanted(call->format);
+
+    if (!call->sound || (!refused && sense_written(call->format,
+                                                   call->answer) == 0))
+        return;
+    counts[SENSE_SIZE + (bytes < 17   ? SENSE_LESS
+                         : bytes > 21 ? SENSE_MORE
+                                      : SENSE_17 + bytes - 17)]++;
+}
+
+static size_t kind_of_address(uint64_t address)
+{
+    if (address == 0)
+        return AT_0;
+    if (address < UINT32_MAX)
+        return BELOW_LAST_OF_4;
+    if (address == UINT32_MAX)
+        return AT_LAST_OF_4;
+    if (address == UINT64_C(1) << 32)
+        return AT_FIRST_PAST_4;
+    return address >> 63 == 0 ? PAST_4 : FROM_TOP_BIT;
+}
+
+static size_t count_from(uint8_t code, bool room)
+{
+    switch (code) {
+    case 0x28:
+        return READ_10_RANGE;
+    case 0x88:
+        return READ_16_RANGE;
+    case 0x2A:
+        return room ? WRITE_10_FULL : WRITE_10_RANGE;
+    case 0x8A:
+        return room ? WRITE_16_FULL : WRITE_16_RANGE;
+    case 0x93:
+        return room ? SAME_FULL : SAME_RANGE;
+    case 0x42:
+        return UNMAP_RANGE;
+    default:
+        return STATUS_RANGE;
+    }
+}
+
+static uint64_t descriptor_address(const struct occasion *call, size_t index)
+{
+    return number(call->data_out + 8 + 16 * index, 8);
+}
+
+/* Of the descriptors that fail behind the first that does: how many, and
+   whether their addresses are lower or higher. */
+static size_t count_behind(const struct occasion *call, size_t first,
+                           size_t considered, uint64_t *counts)
+{
+    uint64_t address = descriptor_address(call, first);
+    size_t index = next_failing(call, first + 1, considered);
+    bool lower = false;
+    bool higher = false;
+    size_t behind = 0;
+
+    for (; index < considered; behind++) {
+        lower |= descriptor_address(call, index) < address;
+        higher |= descriptor_address(call, index) > address;
+        index = next_failing(call, index + 1, considered);
+    }
+    counts[LOWER_FAILS_BEHIND] += lower ? 1 : 0;
+    counts[HIGHER_FAILS_BEHIND] += higher ? 1 : 0;
+    return behind;
+}
+
+/* Of an UNMAP out of range; the counts are those of its failing ones. */
+static void count_failing(const struct occasion *call, size_t first,
+                          size_t considered, uint64_t *counts)
+{
+    size_t behind = count_behind(call, first, considered, counts);
+    uint64_t count = number(call->data_out + 8 + 16 * first + 8, 4);
+
+    if (behind > 0)
+        counts[first == 0 ? SEVERAL_FAIL_FROM_FIRST
+                          : SEVERAL_FAIL_FROM_LATER]++;
+    else if (considered == 1)
+        counts[FAILS_ALONE]++;
+    else if (first == 0)
+        counts[FAILS_FIRST]++;
+    else
+        counts[first + 1 == considered ? FAILS_LAST : FAILS_BETWEEN]++;
+    if (first + 1 == RIDGE_DESCRIPTORS)
+        counts[FAILS_AS_16TH]++;
+    if (count == 0)
+        counts[FAILS_WITH_COUNT_0]++;
+    if (descriptor_address(call, first) < call->unit->capacity)
+        counts[FAILS_BY_COUNT]++;
+}
+
+/* The list of an UNMAP that was good, or out of range; the address that the
+   latter is to tell. */
+static uint64_t count_descriptors(const struct occasion *call, uint64_t *counts)
+{
+    uint64_t length = number(call->cdb + 7, 2);
+    size_t lent = length < 8 ? 0 : (size_t)(length - 8) / 16;
+    size_t considered = lent;
+    size_t first;
+
+    if (lent > 0 && number(call->data_out + 2, 2) / 16 < lent)
+        considered = (size_t)number(call->data_out + 2, 2) / 16;
+    first = next_failing(call, 0, lent);
+    if (call->answer == RIDGE_GOOD && first < lent)
+        counts[FAILS_UNCONSIDERED]++;
+    if (call->answer == RIDGE_GOOD || first >= considered)
+        return 0;
+    count_failing(call, first, considered, counts);
+    return descriptor_address(call, first);
+}
+
+/* Of an answer 3 or 8, or a good UNMAP. */
+static void count_addresses(const struct occasion *call, uint64_t *counts)
+{
+    bool room = call->answer == RIDGE_POOL_FULL;
+    uint64_t address = number(call->cdb + 2, call->cdb_bytes == 16 ? 8 : 4);
+
+    if (call->cdb[0] == 0x42)
+        address = count_descriptors(call, counts + FAILING);
+    if (call->answer != RIDGE_GOOD)
+        counts[count_from(call->cdb[0], room) + kind_of_address(address)]++;
+}
+
+static void count_format(const struct occasion *call, uint64_t *counts)
+{
+    counts[ANSWERED + answer_index(call)]++;
+    count_left(call, counts);
+    count_sense_size(call, counts);
+    switch (call->answer) {
+    case RIDGE_GOOD:
+        if (call->cdb[0] == 0x42)
+            count_addresses(call, counts);
+        break;
+    case RIDGE_ADDRESS_RANGE:
+    case RIDGE_POOL_FULL:
+        count_addresses(call, counts);
+        break;
+    default:
+        break;
+    }
+}
+
+static size_t kind_of_wrong_format(uint64_t format)
+{
+    static const struct {
+        uint64_t format;
+        size_t kind;
+    } kinds[] = {
+        {0, FORMAT_0},       {1, FORMAT_1},       {2, FORMAT_2},
+        {0x6F, FORMAT_6FH},  {0x71, FORMAT_71H},  {0x73, FORMAT_73H},
+        {0xF0, FORMAT_F0H},  {0xF2, FORMAT_F2H},  {UINT64_MAX, FORMAT_LAST},
+    };
+
+    for (size_t index = 0; index < sizeof kinds / sizeof *kinds; index++) {
+        if (kinds[index].format == format)
+            return kinds[index].kind;
+    }
+    if (is_format((uint32_t)format))
+        return FORMAT_OF_32_BITS;
+    if (is_format((uint16_t)format))
+        return FORMAT_OF_16_BITS;
+    return is_format((uint8_t)format) ? FORMAT_OF_8_BITS : FORMAT_OTHER;
+}
+
+void occasions_count_fresh(uint64_t format, uint64_t answer,
+                           uint64_t counts[OCCASIONS])
+{
+    if (!is_format(format))
+        counts[WRONG_AT_FRESH + kind_of_wrong_format(format)]++;
+    else if (answer == RIDGE_GOOD)
+        counts_of_format(format, counts)[MADE_FRESH]++;
 }
 
 /* Of an answer 11 nothing else tells: the state may be invalid. With any other
@@ -1109,7 +1444,10 @@ void occasions_count(const struct occasion *call, uint64_t counts[OCCASIONS])
 {
     uint8_t action = call->cdb[1] & 0x1F;
 
-    count_left(call, counts);
+    if (is_format(call->format))
+        count_format(call, counts_of_format(call->format, counts));
+    else if (call->sound && call->sense_bytes >= RIDGE_DESCRIPTOR_SENSE_BYTES)
+        counts[WRONG_AT_EXECUTE + kind_of_wrong_format(call->format)]++;
     if (call->answer == RIDGE_UNUSABLE || call->answer == RIDGE_CODE_NOT_LISTED)
         return;
     if (call->answer == RIDGE_CDB_FIELD)

@@ -2,8 +2,10 @@
  * occasions.h - what calls must have come to in a long run: each rule of Q-1
  * and Q-2 (WRITE SAME, GET LBA STATUS, INQUIRY), each refusal by its own cause
  * alone, and the near misses on both sides; for Q-4 each field by itself and
- * every set of fields that can be wrong at once, and what the sense buffer held
- * before. A rule that no call came near was not tried.
+ * every set of fields that can be wrong at once; for Q-8 in each format each
+ * answer, each address that an answer may have to tell, which descriptor of an
+ * UNMAP fails, how long the sense buffer is and what it held before, and the
+ * numbers that are no format. A rule that no call came near was not tried.
  */
 
 #ifndef OCCASIONS_H
@@ -11,10 +13,13 @@
 
 #include "generate.h"
 
-enum { OCCASIONS = 301 };
+enum { OCCASIONS = 535 };
 
-/* A call and its answer; unit, owners and sense are those from before it. */
+/* A call and its answer; unit, owners and sense are those from before it. It is
+   sound if at its start only format or sense can make it unusable. */
 struct occasion {
+    uint64_t format;
+    bool sound;
     const struct ridge_unit *unit;
     const uint64_t *owners;
     size_t slots;
@@ -33,6 +38,10 @@ struct occasion {
 
 /* Counts what the call came to. */
 void occasions_count(const struct occasion *call, uint64_t counts[OCCASIONS]);
+
+/* Counts the making of a fresh store, by its format and the answer. */
+void occasions_count_fresh(uint64_t format, uint64_t answer,
+                           uint64_t counts[OCCASIONS]);
 
 const char *occasion_name(size_t occasion);
 

@@ -1,8 +1,8 @@
 /*
  * second.c - a second implementation of the unit, written from the papers
  * alone and independent of the proved library. It follows 01, with requests
- * Q-1 to Q-4 of 02. The tests run both on the same calls; the speed figures
- * take it as their baseline.
+ * Q-1 to Q-4 and Q-8 of 02; Q-5 changes no answer. The tests run both on the
+ * same calls; the speed figures take it as their baseline.
  *
  * Plain C11: no heap, no globals but constant tables. The order of the tests in
  * each function is the papers' order, since the first that fails is the answer.
@@ -32,9 +32,11 @@ struct field {
     uint8_t top_bit;
 };
 
-/* One call: what was lent, once the bounds are known to hold; and after an
-   answer 2 or 5 the field that was wrong. */
+/* One call: what was lent, once the bounds are known to hold; and what sense is
+   to tell beyond the codes: after an answer 2 or 5 the field that was wrong,
+   after 3 or 8 the address. */
 struct call {
+    uint64_t format;
     struct ridge_unit *unit;
     uint64_t *owners;
     size_t slots;
@@ -47,6 +49,7 @@ struct call {
     size_t data_in_bytes;
     uint64_t *returned;
     struct field wrong;
+    uint64_t address;
 };
 
 /* ---- Numbers in buffers, most significant byte first ---- */
@@ -90,6 +93,23 @@ static uint64_t wrong_in_list(struct call *call, size_t first_byte,
 {
     call->wrong = (struct field){first_byte, top_bit};
     return RIDGE_LIST_FIELD;
+}
+
+/* ---- Addresses that cannot be served ---- */
+
+/* Every answer 3 and 8 begins with one of these, which keeps the address that
+   sense is to tell: the command's first, of UNMAP that of the descriptor that
+   fails. Where exactly the end or the room is met does not count. */
+static uint64_t out_of_range(struct call *call, uint64_t address)
+{
+    call->address = address;
+    return RIDGE_ADDRESS_RANGE;
+}
+
+static uint64_t out_of_room(struct call *call, uint64_t address)
+{
+    call->address = address;
+    return RIDGE_POOL_FULL;
 }
 
 /* ---- Validity of a state ---- */
@@ -201,6 +221,12 @@ static bool valid_bounds(uint64_t capacity, size_t slots)
 {
     return capacity >= 1 && capacity <= RIDGE_CAPACITY_LAST && slots >= 1 &&
            slots <= RIDGE_SLOTS;
+}
+
+/* In its whole width: a number that some of its bits make a format is none. */
+static bool valid_format(uint64_t format)
+{
+    return format == RIDGE_FIXED || format == RIDGE_DESCRIPTOR;
 }
 
 static bool valid_state(const struct call *call)
@@ -315,7 +341,7 @@ static uint64_t read_blocks(struct call *call, bool sixteen)
     if (read_conflicts(call))
         return RIDGE_CONFLICT;
     if (!range_fits(call, range))
-        return RIDGE_ADDRESS_RANGE;
+        return out_of_range(call, range.address);
     bytes = (size_t)range.count * RIDGE_BLOCK_BYTES;
     if (call->data_in_bytes < bytes)
         return RIDGE_BUFFER_SHORT;
@@ -384,7 +410,7 @@ static uint64_t write_range(struct call *call, struct range range,
     size_t mapped = index_range(call, range, slot_of);
 
     if (range.count - mapped > free_slots(call))
-        return RIDGE_POOL_FULL;
+        return out_of_room(call, range.address);
     place_blocks(call, range, slot_of, source);
     return RIDGE_GOOD;
 }
@@ -399,7 +425,7 @@ static uint64_t write_blocks(struct call *call, bool sixteen)
     if (write_conflicts(call))
         return RIDGE_CONFLICT;
     if (!range_fits(call, range))
-        return RIDGE_ADDRESS_RANGE;
+        return out_of_range(call, range.address);
     if (call->data_out_bytes < range.count * RIDGE_BLOCK_BYTES)
         return RIDGE_BUFFER_SHORT;
     return write_range(call, range, source);
@@ -463,7 +489,7 @@ static uint64_t unmap(struct call *call)
         return wrong_in_list(call, 2, 7);
     for (size_t index = 0; index < considered; index++) {
         if (!range_fits(call, descriptor(call, index)))
-            return RIDGE_ADDRESS_RANGE;
+            return out_of_range(call, descriptor(call, index).address);
     }
     for (size_t index = 0; index < considered; index++)
         unmap_range(call, descriptor(call, index));
@@ -511,7 +537,7 @@ static uint64_t write_same(struct call *call)
     if (write_conflicts(call))
         return RIDGE_CONFLICT;
     if (!range_fits(call, range))
-        return RIDGE_ADDRESS_RANGE;
+        return out_of_range(call, range.address);
     if (!without_data && call->data_out_bytes < RIDGE_BLOCK_BYTES)
         return RIDGE_BUFFER_SHORT;
     if ((call->cdb[1] & UNMAP) != 0 && is_zero(same.bytes)) {
@@ -766,7 +792,7 @@ static uint64_t get_lba_status(struct call *call)
     if (read_conflicts(call))
         return RIDGE_CONFLICT;
     if (address >= call->unit->capacity)
-        return RIDGE_ADDRESS_RANGE;
+        return out_of_range(call, address);
     return give(call, data, status_list(call, address, data),
                 load(call->cdb + 10, 4));
 }
@@ -1165,42 +1191,127 @@ static uint64_t dispatch(struct call *call, size_t cdb_bytes)
     return command->serve(call);
 }
 
-/* The bytes of sense that SPC names SENSE KEY SPECIFIC. */
-static void point_at(uint8_t sense[RIDGE_SENSE_BYTES], uint64_t answer,
-                     struct field wrong)
+/* ---- Sense data ---- */
+
+/* The most that a format may have to write: each call lends so much, whatever
+   its answer will be. */
+static size_t sense_room(uint64_t format)
+{
+    return format == RIDGE_DESCRIPTOR ? RIDGE_DESCRIPTOR_SENSE_BYTES
+                                      : RIDGE_SENSE_BYTES;
+}
+
+/* Key, ASC and ASCQ for the answers of status 02h, which are 1 to 8. */
+static const uint8_t sense_codes[9][3] = {
+    {0, 0, 0},          {0x05, 0x20, 0x00}, {0x05, 0x24, 0x00},
+    {0x05, 0x21, 0x00}, {0x05, 0x1A, 0x00}, {0x05, 0x26, 0x00},
+    {0x05, 0x55, 0x04}, {0x05, 0x26, 0x04}, {0x07, 0x27, 0x07},
+};
+
+static bool tells_field(uint64_t answer)
+{
+    return answer == RIDGE_CDB_FIELD || answer == RIDGE_LIST_FIELD;
+}
+
+static bool tells_address(uint64_t answer)
+{
+    return answer == RIDGE_ADDRESS_RANGE || answer == RIDGE_POOL_FULL;
+}
+
+/* The three bytes that SPC names SENSE KEY SPECIFIC, in either format. */
+static void point_at(uint8_t bytes[3], uint64_t answer, struct field wrong)
 {
     enum { SKSV = 0x80, COMMAND_DATA = 0x40, BPV = 0x08 };
     uint8_t whose = answer == RIDGE_CDB_FIELD ? COMMAND_DATA : 0;
 
-    sense[15] = SKSV | whose | BPV | wrong.top_bit;
-    store(sense + 16, 2, wrong.first_byte);
+    bytes[0] = SKSV | whose | BPV | wrong.top_bit;
+    store(bytes + 1, 2, wrong.first_byte);
 }
 
-/* Fixed format sense data for the answers of status 02h, which are 1 to 8. */
-static void write_sense(uint8_t *sense, uint64_t answer, struct field wrong)
+/* INFORMATION has four bytes here. An address that they do not hold is left
+   out: a part of it would be another block's. */
+static void fixed_sense(uint8_t *sense, uint64_t answer,
+                        const struct call *call)
 {
-    static const uint8_t codes[9][3] = {
-        {0, 0, 0},          {0x05, 0x20, 0x00}, {0x05, 0x24, 0x00},
-        {0x05, 0x21, 0x00}, {0x05, 0x1A, 0x00}, {0x05, 0x26, 0x00},
-        {0x05, 0x55, 0x04}, {0x05, 0x26, 0x04}, {0x07, 0x27, 0x07},
-    };
+    enum { VALID = 0x80, ADDITIONAL_LENGTH = 0x0A };
 
+    memset(sense, 0, RIDGE_SENSE_BYTES);
+    sense[0] = RIDGE_FIXED;
+    sense[2] = sense_codes[answer][0];
+    sense[7] = ADDITIONAL_LENGTH;
+    sense[12] = sense_codes[answer][1];
+    sense[13] = sense_codes[answer][2];
+    if (tells_field(answer))
+        point_at(sense + 15, answer, call->wrong);
+    if (tells_address(answer) && call->address <= UINT32_MAX) {
+        sense[0] |= VALID;
+        store(sense + 3, 4, call->address);
+    }
+}
+
+/* Each descriptor begins with its type and the number of bytes behind these
+   two; the function returns all that it wrote. */
+static size_t put_information(uint8_t *bytes, uint64_t address)
+{
+    enum { INFORMATION = 0x00, LENGTH = 0x0A, VALID = 0x80 };
+
+    bytes[0] = INFORMATION;
+    bytes[1] = LENGTH;
+    bytes[2] = VALID;
+    bytes[3] = 0;
+    store(bytes + 4, 8, address);
+    return 2 + LENGTH;
+}
+
+static size_t put_place(uint8_t *bytes, uint64_t answer, struct field wrong)
+{
+    enum { SENSE_KEY_SPECIFIC = 0x02, LENGTH = 0x06 };
+
+    bytes[0] = SENSE_KEY_SPECIFIC;
+    bytes[1] = LENGTH;
+    bytes[2] = 0;
+    bytes[3] = 0;
+    point_at(bytes + 4, answer, wrong);
+    bytes[7] = 0;
+    return 2 + LENGTH;
+}
+
+/* A header that tells how much follows it: one descriptor or none. Bytes past
+   that are the caller's and stay. */
+static void descriptor_sense(uint8_t *sense, uint64_t answer,
+                             const struct call *call)
+{
+    enum { HEADER = 8 };
+    size_t behind = 0;
+
+    memset(sense, 0, HEADER);
+    sense[0] = RIDGE_DESCRIPTOR;
+    memcpy(sense + 1, sense_codes[answer], 3);
+    if (tells_field(answer))
+        behind = put_place(sense + HEADER, answer, call->wrong);
+    if (tells_address(answer))
+        behind = put_information(sense + HEADER, call->address);
+    sense[7] = (uint8_t)behind;
+}
+
+static void write_sense(uint8_t *sense, uint64_t answer,
+                        const struct call *call)
+{
     if (answer < RIDGE_CODE_NOT_LISTED || answer > RIDGE_POOL_FULL)
         return;
-    memset(sense, 0, RIDGE_SENSE_BYTES);
-    sense[0] = 0x70;
-    sense[2] = codes[answer][0];
-    sense[7] = 0x0A;
-    sense[12] = codes[answer][1];
-    sense[13] = codes[answer][2];
-    if (answer == RIDGE_CDB_FIELD || answer == RIDGE_LIST_FIELD)
-        point_at(sense, answer, wrong);
+    if (call->format == RIDGE_DESCRIPTOR)
+        descriptor_sense(sense, answer, call);
+    else
+        fixed_sense(sense, answer, call);
 }
 
-uint64_t SECOND_NAME(fresh)(uint64_t capacity, struct ridge_unit *unit,
-                            uint64_t *owners, size_t slots)
+/* ---- The two functions ---- */
+
+uint64_t SECOND_NAME(fresh)(uint64_t capacity, uint64_t format,
+                            struct ridge_unit *unit, uint64_t *owners,
+                            size_t slots)
 {
-    if (!valid_bounds(capacity, slots))
+    if (!valid_bounds(capacity, slots) || !valid_format(format))
         return RIDGE_UNUSABLE;
     memset(unit, 0, sizeof *unit);
     memset(owners, 0, slots * sizeof *owners);
@@ -1209,25 +1320,26 @@ uint64_t SECOND_NAME(fresh)(uint64_t capacity, struct ridge_unit *unit,
 }
 
 uint64_t SECOND_NAME(execute)(
-    struct ridge_unit *unit, uint64_t *owners, size_t slots, uint8_t *medium,
-    size_t medium_bytes, uint64_t nexus, const uint8_t *cdb, size_t cdb_bytes,
-    const uint8_t *data_out, size_t data_out_bytes, uint8_t *data_in,
-    size_t data_in_bytes, uint8_t *sense, size_t sense_bytes,
+    uint64_t format, struct ridge_unit *unit, uint64_t *owners, size_t slots,
+    uint8_t *medium, size_t medium_bytes, uint64_t nexus, const uint8_t *cdb,
+    size_t cdb_bytes, const uint8_t *data_out, size_t data_out_bytes,
+    uint8_t *data_in, size_t data_in_bytes, uint8_t *sense, size_t sense_bytes,
     uint64_t *returned)
 {
-    struct call call = {unit,     owners,         slots,    medium,
-                        nexus,    cdb,            data_out, data_out_bytes,
-                        data_in,  data_in_bytes,  returned, {0, 0}};
+    struct call call = {format,         unit,    owners,        slots,
+                        medium,         nexus,   cdb,           data_out,
+                        data_out_bytes, data_in, data_in_bytes, returned,
+                        {0, 0},         0};
     uint64_t answer;
 
     *returned = 0;
-    if (nexus > RIDGE_NEXUS_LAST || cdb_bytes == 0 ||
-        sense_bytes < RIDGE_SENSE_BYTES)
+    if (nexus > RIDGE_NEXUS_LAST || cdb_bytes == 0 || !valid_format(format) ||
+        sense_bytes < sense_room(format))
         return RIDGE_UNUSABLE;
     if (!valid_bounds(unit->capacity, slots) ||
         medium_bytes != slots * RIDGE_BLOCK_BYTES || !valid_state(&call))
         return RIDGE_UNUSABLE;
     answer = dispatch(&call, cdb_bytes);
-    write_sense(sense, answer, call.wrong);
+    write_sense(sense, answer, &call);
     return answer;
 }

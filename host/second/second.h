@@ -17,14 +17,15 @@
 #define SECOND_NAME(name) second_##name
 #endif
 
-uint64_t SECOND_NAME(fresh)(uint64_t capacity, struct ridge_unit *unit,
-                            uint64_t *owners, size_t slots);
+uint64_t SECOND_NAME(fresh)(uint64_t capacity, uint64_t format,
+                            struct ridge_unit *unit, uint64_t *owners,
+                            size_t slots);
 
 uint64_t SECOND_NAME(execute)(
-    struct ridge_unit *unit, uint64_t *owners, size_t slots, uint8_t *medium,
-    size_t medium_bytes, uint64_t nexus, const uint8_t *cdb, size_t cdb_bytes,
-    const uint8_t *data_out, size_t data_out_bytes, uint8_t *data_in,
-    size_t data_in_bytes, uint8_t *sense, size_t sense_bytes,
+    uint64_t format, struct ridge_unit *unit, uint64_t *owners, size_t slots,
+    uint8_t *medium, size_t medium_bytes, uint64_t nexus, const uint8_t *cdb,
+    size_t cdb_bytes, const uint8_t *data_out, size_t data_out_bytes,
+    uint8_t *data_in, size_t data_in_bytes, uint8_t *sense, size_t sense_bytes,
     uint64_t *returned);
 
 #endif

@@ -222,13 +222,14 @@ static void execute(struct store *store, const struct request *request)
     uint64_t returned;
 
     answers[second_execute(
-        &store->unit, store->owners, store->slots, store->medium,
-        store->slots * RIDGE_BLOCK_BYTES, request->nexus, request->cdb,
-        request->cdb_bytes, request->data_out, request->data_out_bytes,
-        data_in, sizeof data_in, sense, sizeof sense, &returned)]++;
+        store->format, &store->unit, store->owners, store->slots,
+        store->medium, store->slots * RIDGE_BLOCK_BYTES, request->nexus,
+        request->cdb, request->cdb_bytes, request->data_out,
+        request->data_out_bytes, data_in, sizeof data_in, sense, sizeof sense,
+        &returned)]++;
 }
 
-/* A history on a fresh store. */
+/* A history on a fresh store, which is the bench's. */
 static void make_history(struct random *random, struct sheet *sheet)
 {
     static struct making making;
@@ -240,8 +241,10 @@ static void make_history(struct random *random, struct sheet *sheet)
     making.calls = 0;
     making.bytes = 0;
     memset(&store, 0, sizeof store);
+    store.format = RIDGE_FIXED;
     store.slots = BENCH_SLOTS;
-    second_fresh(BENCH_CAPACITY, &store.unit, store.owners, store.slots);
+    second_fresh(BENCH_CAPACITY, store.format, &store.unit, store.owners,
+                 store.slots);
     for (size_t index = 0; index < calls; index++) {
         if (!make_opening_call(opening, index, &request))
             make_call(random, &store, &request);

@@ -2,7 +2,7 @@
  * second_bench.c - an independent bench; second_bench.h says what for. It is
  * written from the requirements alone: a sheet is taken whole or not at all,
  * the status of an answer stands in a table here, and the sense that is printed
- * is read from the sense buffer.
+ * is read from the sense buffer, which is of the fixed format.
  */
 
 #include "second_bench.h"
@@ -77,16 +77,17 @@ void second_bench(const uint8_t *sheet, size_t bytes, FILE *out)
         return;
     }
     fputs("call,answer,status,sense,length,data\n", out);
-    second_fresh(BENCH_CAPACITY, &unit, owners, BENCH_SLOTS);
+    second_fresh(BENCH_CAPACITY, RIDGE_FIXED, &unit, owners, BENCH_SLOTS);
     for (size_t index = 0; index < sheet[0]; index++) {
         const struct call *call = &calls[index];
         uint8_t data_in[BENCH_DATA_IN] = {0};
         uint8_t sense[18] = {0};
         uint64_t returned = 0;
         uint64_t answer = second_execute(
-            &unit, owners, BENCH_SLOTS, medium, sizeof medium, call->nexus,
-            call->cdb, call->cdb_bytes, call->data_out, call->data_out_bytes,
-            data_in, sizeof data_in, sense, sizeof sense, &returned);
+            RIDGE_FIXED, &unit, owners, BENCH_SLOTS, medium, sizeof medium,
+            call->nexus, call->cdb, call->cdb_bytes, call->data_out,
+            call->data_out_bytes, data_in, sizeof data_in, sense, sizeof sense,
+            &returned);
 
         print_line(out, index + 1, answer, returned, data_in, sense);
     }

@@ -7,11 +7,12 @@
  * Without a SEED each run takes a new one; it is printed first, and the same
  * seed gives the same calls on every machine.
  *
- * The two stores of a pair have equal capacity, registrations, reservation and
- * generation; slots, maps and blocks differ. Both get the same reservation-out
- * calls (operation code 5Fh) and the same calls by nexuses then shut out, in
- * the same order with the same lent data and sense buffers, the whole pool lent
- * each time. Between these, each gets other calls of its own.
+ * The two stores of a pair have the same format of sense, equal capacity,
+ * registrations, reservation and generation; slots, maps and blocks differ.
+ * Both get the same reservation-out calls (operation code 5Fh) and the same
+ * calls by nexuses then shut out, in the same order with the same lent data and
+ * sense buffers, the whole pool lent each time. Between these, each gets other
+ * calls of its own.
  *
  * Then each of the common calls gives the same answer, returned count, data-in
  * and sense in both, to the last byte, so the place of a wrong field too, and
@@ -39,8 +40,8 @@ enum {
     PLACES = 14
 };
 
-/* Sense bytes 15 to 17 for each wrong field that a common call may have. The
-   number of an UNMAP's descriptors is none: a conflict comes before it. */
+/* Q-4's three bytes of sense for each wrong field that a common call may have.
+   The number of an UNMAP's descriptors is none: a conflict comes before it. */
 static const struct {
     const char *name;
     uint8_t bytes[3];
@@ -87,7 +88,9 @@ struct figures {
     uint64_t take_overs;   /* PREEMPT with key 0 that was served */
     uint64_t shutting_out; /* of these, such as shut somebody out */
     uint64_t removed_calls;
-    uint64_t places[PLACES]; /* of common calls */
+    /* Of common calls, in stores of fixed and of descriptor format. */
+    uint64_t places[2][PLACES];
+    uint64_t compared[2][16]; /* by answer */
 };
 
 struct run {
@@ -109,7 +112,8 @@ static void print_side(const char *name, const struct side *side)
 {
     printf("%s: answer %" PRIu64 ", returned %" PRIu64 "\n", name,
            side->answer, side->returned);
-    console_store(&side->before.unit, side->before.owners, side->store.slots);
+    console_store(side->store.format, &side->before.unit, side->before.owners,
+                  side->store.slots);
 }
 
 static void fail(const struct run *run, const char *what)
@@ -161,11 +165,11 @@ static void execute(struct run *run, struct side *side)
     memcpy(side->before.medium, store->medium,
            store->slots * RIDGE_BLOCK_BYTES);
     side->answer = ridge_execute(
-        &store->unit, store->owners, store->slots, store->medium,
-        store->slots * RIDGE_BLOCK_BYTES, request->nexus, request->cdb,
-        request->cdb_bytes, request->data_out, request->data_out_bytes,
-        side->data_in, request->data_in_bytes, side->sense,
-        request->sense_bytes, &side->returned);
+        store->format, &store->unit, store->owners, store->slots,
+        store->medium, store->slots * RIDGE_BLOCK_BYTES, request->nexus,
+        request->cdb, request->cdb_bytes, request->data_out,
+        request->data_out_bytes, side->data_in, request->data_in_bytes,
+        side->sense, request->sense_bytes, &side->returned);
 }
 
 static bool map_kept(const struct side *side)
@@ -188,16 +192,20 @@ static bool unit_kept(const struct side *side)
     return same_unit(&side->before.unit, &side->store.unit);
 }
 
-/* Of the sense that a common call was given, in both the same. */
-static void count_place(struct run *run)
+/* Of the answer and the sense of a common call, the same in both. */
+static void count_common(struct run *run)
 {
     const struct side *side = &run->left;
+    bool fixed = side->store.format == RIDGE_FIXED;
+    size_t format = fixed ? 0 : 1;
+    const uint8_t *place = side->sense + (fixed ? 15 : 12);
 
+    run->figures.compared[format][side->answer & 15]++;
     if (side->answer != RIDGE_CDB_FIELD && side->answer != RIDGE_LIST_FIELD)
         return;
     for (size_t index = 0; index < PLACES; index++) {
-        if (memcmp(side->sense + 15, places[index].bytes, 3) == 0)
-            run->figures.places[index]++;
+        if (memcmp(place, places[index].bytes, 3) == 0)
+            run->figures.places[format][index]++;
     }
 }
 
@@ -226,7 +234,7 @@ static void common_call(struct run *run)
     if (!is_reserve_out(&run->request) &&
         (!unit_kept(left) || !unit_kept(right)))
         fail(run, "a shut-out call has changed the record");
-    count_place(run);
+    count_common(run);
 }
 
 /* Whether the reservation-out call in hand was a take-over, and served. */
@@ -352,6 +360,7 @@ static void make_pair(struct run *run)
         generate_reservation(
             &run->random, &left->unit.rights,
             (uint32_t)RANDOM_CHOICE(&run->random, 3, 3, 6, 6, 7, 8, 8));
+    right->format = left->format;
     right->unit = left->unit;
     right->slots = generate_slots(&run->random);
     generate_map(&run->random, right);
@@ -438,16 +447,41 @@ static bool print_shut_out(const struct figures *figures, uint64_t steps)
     return enough;
 }
 
+static const char *const format_names[] = {"fixed", "descriptor"};
+
 static bool print_places(const struct figures *figures, uint64_t steps)
 {
     bool enough = true;
 
-    for (size_t index = 0; index < PLACES; index++) {
-        char name[80];
+    for (size_t format = 0; format < 2; format++) {
+        for (size_t index = 0; index < PLACES; index++) {
+            char name[96];
 
-        snprintf(name, sizeof name, "common calls refused for %s",
-                 places[index].name);
-        enough &= print_count(name, figures->places[index], steps / 20000);
+            snprintf(name, sizeof name, "common calls refused for %s, %s",
+                     places[index].name, format_names[format]);
+            enough &= print_count(name, figures->places[format][index],
+                                  steps / 40000);
+        }
+    }
+    return enough;
+}
+
+/* Answers 3 and 8 are none of a common call's: a conflict comes before. */
+static bool print_compared(const struct figures *figures, uint64_t steps)
+{
+    static const uint8_t answers[] = {0, 1, 2, 4, 5, 6, 7, 10, 11, 12};
+    bool enough = true;
+
+    for (size_t format = 0; format < 2; format++) {
+        for (size_t index = 0; index < sizeof answers; index++) {
+            char name[64];
+
+            snprintf(name, sizeof name, "common calls answered %u, %s",
+                     answers[index], format_names[format]);
+            enough &= print_count(name,
+                                  figures->compared[format][answers[index]],
+                                  steps / 10000);
+        }
     }
     return enough;
 }
@@ -466,6 +500,7 @@ static bool print_figures(const struct figures *figures)
                           figures->shutting_out, steps / 2000);
     enough &= print_shut_out(figures, steps);
     enough &= print_places(figures, steps);
+    enough &= print_compared(figures, steps);
     enough &= print_count("other calls between", figures->other_calls,
                           steps / 10);
     enough &= print_count("of these changed a map or block",

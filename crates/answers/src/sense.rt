@@ -194,7 +194,8 @@ fn put_described(codes: Codes, detail: Detail, sense: &mut [u8])
 
 // ---- either
 
-fn put_data(format: u64, refusal: Refusal, sense: &mut [u8])
+// The sense of a refusal.
+pub fn put_refusal(format: u64, refusal: Refusal, sense: &mut [u8])
     requires { ⌜ senseBytes format ≤ length (now sense) ⌝ }
     ensures { λ _. ⌜ now (sense .exit) ≡ put (now (sense .entry)) 0 (senseData format refusal) ⌝ }
 {
@@ -214,7 +215,7 @@ pub fn put_sense(format: u64, answer: Answer, sense: &mut [u8])
     ensures { λ _. ⌜ now (sense .exit) ≡ senseAfter format answer (now (sense .entry)) ⌝ }
 {
     match answer {
-        Answer::Refused(refusal) => put_data(format, refusal, sense),
+        Answer::Refused(refusal) => put_refusal(format, refusal, sense),
         Answer::Good => {}
         Answer::Conflict => {}
         Answer::Unusable => {}

@@ -1,4 +1,5 @@
 pub mod StageLaws
+pub mod SenseLaws
 pub mod StepLaws
 pub mod ServedLaws
 pub mod FreshLaws

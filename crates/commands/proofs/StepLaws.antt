@@ -104,12 +104,11 @@ module _ (s : Store) (n : ℕ) (cdb out in′ sense : List ℕ) where
   step-unready h = step-refused Unusable tt (answer-unready (entryOf cdb) s (callOf n cdb out in′ sense) h)
 
   module _ (h : readyFor s (callOf n cdb [] [] sense) ≡ true) where
-    pub step-wrong : (a : Answer) (r : Outcome) (owners medium dataIn sense′ : List ℕ) → askedAt (entryOf cdb) (s .unit .rights) n cdb ≡ Wrong a
-        → r ≡ bare a (s .unit) → owners ≡ s .pool .owners → medium ≡ s .pool .medium → dataIn ≡ in′ → sense′ ≡ senseAfter (s .format) (r .answer) sense
-        → left (s .format) r owners medium dataIn sense′ ≡ step s (callOf n cdb out in′ sense)
+    pub step-wrong : (a : Answer) (sense′ : List ℕ) → askedAt (entryOf cdb) (s .unit .rights) n cdb ≡ Wrong a → sense′ ≡ senseAfter (s .format) a sense
+        → left (s .format) (bare a (s .unit)) (s .pool .owners) (s .pool .medium) in′ sense′ ≡ step s (callOf n cdb out in′ sense)
     unfolding readyFor
-    step-wrong a r owners medium dataIn sense′ w is o m d k =
-        rw (k, is, o, m, d)
+    step-wrong a sense′ w k =
+        rw k
         (step-refused a
         (rw (← wrong-answer (entryOf cdb) (s .unit .rights) n cdb a w) (wrong-refused (entryOf cdb) (s .unit .rights) n cdb a w))
         (answer-wrong (entryOf cdb) s (callOf n cdb out in′ sense) a h w))

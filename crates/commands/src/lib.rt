@@ -9,6 +9,7 @@ ghost use Rattle.reply.specs.Contract.{storeOf, callOf, left, made};
 ghost use Rattle.commands.specs.Served.{unmade};
 use answers::Answer;
 use answers::sense;
+use answers::sense::put_refusal;
 use answers::sense::put_sense;
 use decoder::Decoded;
 use reply::Made;
@@ -36,15 +37,22 @@ pub fn execute(
         return act::answered(Answer::Unusable, unit);
     }
     let asked = stages::asked(unit, nexus, cdb);
-    let outcome = match asked {
-        Decoded::Wrong(answer) => act::answered(answer, unit),
-        Decoded::Asks(request) => {
-            act::act(request, unit, owners, medium, nexus, data_out, data_in)
+    match asked {
+        Decoded::Wrong(answer) => {
+            put_sense(format, answer, sense);
+            act::answered(answer, unit)
         }
-    };
-    let answer = outcome.answer;
-    put_sense(format, answer, sense);
-    outcome
+        Decoded::Asks(request) => {
+            let outcome = act::act(request, unit, owners, medium, nexus, data_out, data_in);
+            let answer = outcome.answer;
+            // Not by `put_sense`: most calls are served, and need not lay out their answer to be told that it has no sense.
+            let Answer::Refused(refusal) = answer else {
+                return outcome;
+            };
+            put_refusal(format, refusal, sense);
+            outcome
+        }
+    }
 }
 
 // A unit without registration and reservation.

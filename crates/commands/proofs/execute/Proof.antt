@@ -1,8 +1,8 @@
 -- `commands::execute` meets its contract. Assumes nothing.
 use mathlib.Core.Path.{sym, _∙_}
-use mathlib.Core.Logic.{⊎-elim}
 use borrow.Author.Tests.{not-true, not-false}
 use mathlib.Core.List.{[]}
+use Rattle.commands.proofs.SenseLaws.{senseless, refused-sense}
 use Rattle.commands.proofs.StepLaws.{step-unready, step-wrong, asks-fits, step-served}
 use Rattle.readiness.proofs.ReadyLaws.{ready-bounded, ready-sense}
 use borrow.Author.Needs.{needs}
@@ -34,6 +34,9 @@ asked-requires c κs = search needs
 enum-known-asked : tie.Need-enum-known-asked
 enum-known-asked c = search needs
 
+put-sense-requires : tie.Need-put-sense-requires
+put-sense-requires c κs = ready-sense _ _ _ _ _ _ _ (sym (c .before .before .before .before .before .before .ready .ensures) ∙ not-false _ (c .before .before .before .before .before .if1 .left))
+
 answered-requires-2 : tie.Need-answered-requires-2
 answered-requires-2 c κs = search needs
 
@@ -43,29 +46,53 @@ enum-known-asked-2 c = search needs
 act-requires : tie.Need-act-requires
 act-requires c κs = (ready-bounded _ _ _ _ _ _ _ (sym (c .before .before .before .before .before .before .before .before .ready .ensures) ∙ not-false _ (c .before .before .before .before .before .before .before .if1 .left)), asks-fits _ _ _ [] [] _ (sym (c .before .before .before .before .before .before .before .before .ready .ensures) ∙ not-false _ (c .before .before .before .before .before .before .before .if1 .left)) _ (sym (c .before .before .before .before .before .before .asked .ensures) ∙ (c .before .before .before .before .asked3 .given .1)))
 
-put-sense-requires : tie.Need-put-sense-requires
-put-sense-requires c κs = ready-sense _ _ _ _ _ _ _ (sym (c .before .before .before .before .ready .ensures) ∙ not-false _ (c .before .before .before .if1 .left))
+enum-known-answer : tie.Need-enum-known-answer
+enum-known-answer c = search needs
 
 same-length-4 : tie.Need-same-length-4
-same-length-4 c = ⊎-elim (λ w. search needs) (λ w. search needs) (c .before .before .before .before .match .came)
+same-length-4 c = search needs
 
 same-length-5 : tie.Need-same-length-5
-same-length-5 c = ⊎-elim (λ w. search needs) (λ w. search needs) (c .before .before .before .before .match .came)
+same-length-5 c = search needs
 
 same-length-6 : tie.Need-same-length-6
-same-length-6 c = ⊎-elim (λ w. search needs) (λ w. rw (w .15) (search needs)) (c .before .before .before .before .match .came)
+same-length-6 c = search needs
 
 same-length-7 : tie.Need-same-length-7
 same-length-7 c = search needs
 
 returns-2 : tie.Need-returns-2
-returns-2 c =
-    ⊎-elim
-    (λ w. step-wrong _ _ _ _ _ _ (sym (c .before .before .before .before .before .before .before .ready .ensures) ∙ not-false _ (c .before .before .before .before .before .before .if1 .left)) _ _ _ _ _ _ (sym (c .before .before .before .before .before .asked .ensures) ∙ w .1 .given .1)
-    (w .7 ∙ w .3 .ensures) (w .4) (w .5) (w .6) (c .before .before .put-sense .ensures))
-    (λ w. step-served _ _ _ _ _ _ (sym (c .before .before .before .before .before .before .before .ready .ensures) ∙ not-false _ (c .before .before .before .before .before .before .if1 .left)) _ (sym (c .before .before .before .before .before .asked .ensures) ∙ w .1 .given .1) _ _ _ _ _
-    (rw (w .16, w .13, w .14, w .15) (w .6 .ensures _)) (c .before .before .put-sense .ensures))
-    (c .before .before .before .before .match .came)
+returns-2 c = step-served _ _ _ _ _ _ (sym (c .before .before .before .before .before .before .before .before .before .before .before .before .before .before .before .before .ready .ensures) ∙ not-false _ (c .before .before .before .before .before .before .before .before .before .before .before .before .before .before .before .if1 .left)) _ (sym (c .before .before .before .before .before .before .before .before .before .before .before .before .before .before .asked .ensures) ∙ (c .before .before .before .before .before .before .before .before .before .before .before .before .asked3 .given .1)) _ _ _ _ _ (c .before .before .before .before .before .before .before .act .ensures _) (senseless _ _ _ (c .match2 .keys2))
+
+put-refusal-requires : tie.Need-put-refusal-requires
+put-refusal-requires c κs = ready-sense _ _ _ _ _ _ _ (sym (c .before .before .before .before .before .before .before .before .before .before .before .before .before .before .before .before .before .before .before .ready .ensures) ∙ not-false _ (c .before .before .before .before .before .before .before .before .before .before .before .before .before .before .before .before .before .before .if1 .left))
+
+same-length-8 : tie.Need-same-length-8
+same-length-8 c = search needs
+
+same-length-9 : tie.Need-same-length-9
+same-length-9 c = search needs
+
+same-length-10 : tie.Need-same-length-10
+same-length-10 c = search needs
+
+returns-3 : tie.Need-returns-3
+returns-3 c = rw (c .answered2 .ensures) (step-wrong _ _ _ _ _ _ (sym (c .before .before .before .before .before .before .before .before .before .before .ready .ensures) ∙ not-false _ (c .before .before .before .before .before .before .before .before .before .if1 .left)) _ _ (sym (c .before .before .before .before .before .before .before .before .asked .ensures) ∙ (c .before .before .before .before .before .before .asked2 .given .1)) (c .before .before .before .put-sense .ensures))
+
+same-length-11 : tie.Need-same-length-11
+same-length-11 c = search needs
+
+same-length-12 : tie.Need-same-length-12
+same-length-12 c = search needs
+
+same-length-13 : tie.Need-same-length-13
+same-length-13 c = search needs
+
+same-length-14 : tie.Need-same-length-14
+same-length-14 c = search needs
+
+returns-4 : tie.Need-returns-4
+returns-4 c = step-served _ _ _ _ _ _ (sym (c .before .before .before .before .before .before .before .before .before .before .before .before .before .before .before .before .before .before .before .before .before .before .ready .ensures) ∙ not-false _ (c .before .before .before .before .before .before .before .before .before .before .before .before .before .before .before .before .before .before .before .before .before .if1 .left)) _ (sym (c .before .before .before .before .before .before .before .before .before .before .before .before .before .before .before .before .before .before .before .before .asked .ensures) ∙ (c .before .before .before .before .before .before .before .before .before .before .before .before .before .before .before .before .before .before .asked3 .given .1)) _ _ _ _ _ (c .before .before .before .before .before .before .before .before .before .before .before .before .before .act .ensures _) (refused-sense _ _ _ _ (c .before .before .before .before .before .answer .given .1) (c .before .before .put-refusal .ensures))
 
 pub execute-spec : {M : Type 1} → statement M
 execute-spec =
@@ -79,12 +106,23 @@ execute-spec =
     returns
     asked-requires
     enum-known-asked
+    put-sense-requires
     answered-requires-2
     enum-known-asked-2
     act-requires
-    put-sense-requires
+    enum-known-answer
     same-length-4
     same-length-5
     same-length-6
     same-length-7
-    returns-2)
+    returns-2
+    put-refusal-requires
+    same-length-8
+    same-length-9
+    same-length-10
+    returns-3
+    same-length-11
+    same-length-12
+    same-length-13
+    same-length-14
+    returns-4)

@@ -7,8 +7,8 @@ use Rattle.answers.proofs.sense.put_sense.Tie as tie
 enum-known-answer : tie.Need-enum-known-answer
 enum-known-answer c = search needs
 
-put-data-requires : tie.Need-put-data-requires
-put-data-requires c κs = search needs
+put-refusal-requires : tie.Need-put-refusal-requires
+put-refusal-requires c κs = search needs
 
 enum-told : tie.Need-enum-told
 enum-told c = search needs
@@ -27,7 +27,7 @@ same-length c = search needs
 
 returns : tie.Need-returns
 unfolding senseAfter
-returns c = simp (c .before .before .before .before .before .answer .given .1, c .before .before .put-data .ensures)
+returns c = simp (c .before .before .before .before .before .answer .given .1, c .before .before .put-refusal .ensures)
 
 returns-2 : tie.Need-returns-2
 unfolding senseAfter
@@ -50,7 +50,7 @@ put-sense-spec =
     tie.close
     (tie.spec
     enum-known-answer
-    put-data-requires
+    put-refusal-requires
     enum-told
     enum-told-2
     enum-told-3

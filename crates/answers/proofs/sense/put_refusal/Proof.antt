@@ -1,10 +1,10 @@
--- `sense::put_data` meets its contract. Assumes nothing.
+-- `sense::put_refusal` meets its contract. Assumes nothing.
 use borrow.Author.Tests.{eq-eqb, ne-eqb}
 use Rattle.answers.specs.Sense.{senseData}
 use Rattle.answers.proofs.SenseLaws.{fixed-room, descriptor-room, take-fixed}
 use borrow.Author.Needs.{needs}
-use Rattle.answers.proofs.sense.put_data.Statement.{statement}
-use Rattle.answers.proofs.sense.put_data.Tie as tie
+use Rattle.answers.proofs.sense.put_refusal.Statement.{statement}
+use Rattle.answers.proofs.sense.put_refusal.Tie as tie
 
 codes-of-requires : tie.Need-codes-of-requires
 codes-of-requires c κs = search needs
@@ -38,8 +38,8 @@ returns-2 : tie.Need-returns-2
 unfolding senseData
 returns-2 c = simp (ne-eqb _ _ (c .before .before .before .before .before .before .if1 .left), take-fixed, c .before .before .put .ensures, c .before .before .before .before .before .fixed-with .ensures, c .before .before .before .before .before .before .before .detail-of .ensures, c .before .before .before .before .before .before .before .before .codes-of .ensures)
 
-pub put-data-spec : {M : Type 1} → statement M
-put-data-spec =
+pub put-refusal-spec : {M : Type 1} → statement M
+put-refusal-spec =
     tie.close
     (tie.spec
     codes-of-requires

@@ -1,5 +1,5 @@
 /*
- * ridge.h - the C interface of the proved library libridge.a, version 3.0.0
+ * ridge.h - the C interface of the proved library libridge.a, version 4.0.0
  *
  * One thinly provisioned direct access logical unit: blocks of 512 bytes,
  * unmapped blocks read as zeros. The caller lends all memory; the library
@@ -39,6 +39,16 @@
  *   12   none       none        data-out shorter than the blocks (WRITE SAME:
  *                               the one block) or list length, data-in than
  *                               the bytes returned
+ *   13   02h        06/2A/03,   an attention was waiting for the nexus: one of
+ *                   06/2A/04,   enum ridge_attention below
+ *                   06/2A/05
+ *
+ * ATTENTIONS. A reservation-out command may do to another nexus what that one
+ * must know: it then waits in the unit's record, one for each nexus, the newest
+ * in place of an older. The next command of that nexus, whatever it is but
+ * INQUIRY, is answered 13 with the attention's codes, is not done, and takes
+ * the attention away. Calls that are answered 1 or 11 leave it, and so does
+ * INQUIRY, which is answered as ever.
  *
  * SENSE. Where the status is 02h sense data is written, in the store's format:
  * the key, the codes, and what else the answer has to tell. Answers 2 and 5
@@ -59,7 +69,8 @@
  *   80h 00h and its eight bytes; of neither, nothing.
  *
  * With another status, or none, sense is untouched, as its bytes past those are
- * always. An answer other than 0 leaves the store as it was.
+ * always. An answer other than 0 leaves the store as it was, but that 13 takes
+ * away the attention that it tells.
  */
 
 #ifndef RIDGE_H
@@ -82,18 +93,20 @@ extern "C" {
  * From 1 to 2 the record took the place of twenty numbered words. No answer
  * changed; CHANGELOG.md says which word became which field. From 2 to 3 both
  * functions take the store's format of sense data; a store of interface 2 is
- * one of interface 3 with the format RIDGE_FIXED.
+ * one of interface 3 with the format RIDGE_FIXED. From 3 to 4 the record has
+ * attentions at its end; a record of interface 3 with 16 bytes of 0 behind it
+ * is one of interface 4.
  *
  * Of the version, the first number rises with the interface, the second when
  * commands or answers are added that leave old callers right, the third when
  * neither changes. CHANGELOG.md says what each version brought. The revision
  * 0100 that INQUIRY returns is the product's, and none of these.
  */
-#define RIDGE_INTERFACE 3
-#define RIDGE_VERSION_MAJOR 3
+#define RIDGE_INTERFACE 4
+#define RIDGE_VERSION_MAJOR 4
 #define RIDGE_VERSION_MINOR 0
 #define RIDGE_VERSION_PATCH 0
-#define RIDGE_VERSION "3.0.0"
+#define RIDGE_VERSION "4.0.0"
 
 /*
  * The most blocks and the most descriptors a host reads from the unit itself:
@@ -107,6 +120,7 @@ enum ridge_bound {
     RIDGE_STATUS_DESCRIPTORS = 32,/* most descriptors GET LBA STATUS tells */
     RIDGE_PLACES = 8,           /* registration places */
     RIDGE_NEXUS_LAST = 15,      /* nexus numbers are 0 to 15 */
+    RIDGE_NEXUSES = 16,         /* how many they are */
     RIDGE_SENSE_BYTES = 18,     /* least size of a sense buffer, fixed format */
     RIDGE_DESCRIPTOR_SENSE_BYTES = 20 /* the same, descriptor format */
 };
@@ -125,7 +139,20 @@ enum ridge_format {
 };
 
 /*
- * The record of a unit, 152 bytes. Each of them belongs to a field: there is no
+ * What can wait for a nexus: that its registration was removed by another's
+ * PREEMPT; that its registration, and any reservation, were removed by another's
+ * CLEAR; that a reservation for registrants was released, or its type changed.
+ * Any other number is part of no valid state.
+ */
+enum ridge_attention {
+    RIDGE_NO_ATTENTION = 0,
+    RIDGE_REGISTRATIONS_PREEMPTED = 1, /* 2A/05 */
+    RIDGE_RESERVATIONS_PREEMPTED = 2,  /* 2A/03 */
+    RIDGE_RESERVATIONS_RELEASED = 3    /* 2A/04 */
+};
+
+/*
+ * The record of a unit, 168 bytes. Each of them belongs to a field: there is no
  * padding, so that any bytes are a record and each is determined after a call.
  * A field counts in its whole width: a nexus of 2^32 is not nexus 0, a type of
  * 257 is not type 1.
@@ -134,8 +161,9 @@ enum ridge_format {
  * above the capacity, no two slots of one block; a place is used exactly if its
  * key is not 0, used places have different nexuses up to 15, unused ones nexus
  * 0; the type is 0 (none, holder 0) or 1, 3, 5, 6 (holder is a registered
- * nexus) or 7, 8 (holder 0, somebody is registered). Every generation is valid.
- * In any other state ridge_execute answers 11.
+ * nexus) or 7, 8 (holder 0, somebody is registered); each attention is 0 to 3,
+ * whether its nexus is registered or not. Every generation is valid. In any
+ * other state ridge_execute answers 11.
  *
  * Numbers are in the machine's byte order. A file wants an order of its own:
  * the project's host/serve/store.c has one.
@@ -155,6 +183,7 @@ struct ridge_rights {
 struct ridge_unit {
     uint64_t capacity;          /* blocks */
     struct ridge_rights rights; /* registrations and reservation */
+    uint8_t attentions[RIDGE_NEXUSES]; /* what waits for each nexus */
 };
 
 /*
@@ -189,7 +218,8 @@ RIDGE_HOLDS(sizeof(struct ridge_rights) == 144);
 
 RIDGE_FIELD(ridge_unit, capacity, 0, 8);
 RIDGE_FIELD(ridge_unit, rights, 8, 144);
-RIDGE_HOLDS(sizeof(struct ridge_unit) == 152);
+RIDGE_FIELD(ridge_unit, attentions, 152, 16);
+RIDGE_HOLDS(sizeof(struct ridge_unit) == 168);
 RIDGE_HOLDS(RIDGE_ALIGNMENT(struct ridge_unit) == 8);
 
 #undef RIDGE_FIELD
@@ -209,13 +239,14 @@ enum ridge_answer {
     RIDGE_POOL_FULL = 8,
     RIDGE_CONFLICT = 10,
     RIDGE_UNUSABLE = 11,
-    RIDGE_BUFFER_SHORT = 12
+    RIDGE_BUFFER_SHORT = 12,
+    RIDGE_ATTENTION = 13
 };
 
 /*
  * Makes a fresh store: no mapping, no registration, no reservation, generation
- * 0. It never sees the medium, whose bytes stay as they are (no block is
- * mapped, so none of them can be read).
+ * 0, nothing waiting for anybody. It never sees the medium, whose bytes stay as
+ * they are (no block is mapped, so none of them can be read).
  *
  *   capacity   blocks, 1 to 2^40
  *   format     of its sense data, RIDGE_FIXED or RIDGE_DESCRIPTOR

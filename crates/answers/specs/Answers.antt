@@ -1,9 +1,11 @@
 -- The answers: what document 01 gives each as number, status, sense key and codes.
 -- Assumes nothing.
+use mathlib.Core.Bool.{Bool}
 use Prim.Native.Nat.{ℕ}
+use lib.Dec.{eqb}
 use Rattle.fields.specs.Bits.{Bits, firstByte, topBit, bitCount}
 use Rattle.answers.specs.declared.Refusal.{Refusal}
-use Rattle.answers.specs.declared.Refusal.the-variants.{NotListed, InvalidField, OutOfRange, ListLength, ListField, NoPlace, OtherType, NoRoom}
+use Rattle.answers.specs.declared.Refusal.the-variants.{NotListed, InvalidField, OutOfRange, ListLength, ListField, NoPlace, OtherType, NoRoom, RegistrationsPreempted, ReservationsPreempted, ReservationsReleased}
 use Rattle.answers.specs.declared.Codes.{Codes}
 use Rattle.answers.specs.declared.Answer.{Answer}
 use Rattle.answers.specs.declared.Answer.the-variants.{Good, Refused, Conflict, Unusable, Short}
@@ -33,6 +35,10 @@ codesOf NoPlace = codes 6 0x05 0x55 0x04
 codesOf OtherType = codes 7 0x05 0x26 0x04
 -- "more unmapped blocks in a write than free slots"
 codesOf (NoRoom address) = codes 8 0x07 0x27 0x07
+-- Q-6: "2A/05 registrations preempted …; 2A/03 reservations preempted …; 2A/04 reservations released", "key 06h", "13, status 02h"
+codesOf RegistrationsPreempted = codes 13 0x06 0x2A 0x05
+codesOf ReservationsPreempted = codes 13 0x06 0x2A 0x03
+codesOf ReservationsReleased = codes 13 0x06 0x2A 0x04
 
 abbrev pub notListed : Answer
 notListed = Refused NotListed
@@ -69,6 +75,10 @@ numberOf (Refused refusal) = codesOf refusal .number
 numberOf Conflict = 10
 numberOf Unusable = 11
 numberOf Short = 12
+
+-- Q-6: the answer returns what waited for its caller
+unfoldable pub isAttention : Answer → Bool
+isAttention a = eqb (numberOf a) 13
 
 -- the status byte of each answer: 00h, 02h, 18h, or none
 unfoldable pub statusOf : Answer → Status

@@ -8,7 +8,7 @@ use lib.ListN.{length}
 use Rattle.fields.specs.Bytes.{put}
 use Rattle.fields.specs.Field.{bytes}
 use Rattle.answers.specs.declared.Refusal.{Refusal}
-use Rattle.answers.specs.declared.Refusal.the-variants.{NotListed, InvalidField, OutOfRange, ListLength, ListField, NoPlace, OtherType, NoRoom}
+use Rattle.answers.specs.declared.Refusal.the-variants.{NotListed, InvalidField, OutOfRange, ListLength, ListField, NoPlace, OtherType, NoRoom, RegistrationsPreempted, ReservationsPreempted, ReservationsReleased}
 use Rattle.answers.specs.declared.Codes.{Codes}
 use Rattle.answers.specs.declared.Answer.{Answer}
 use Rattle.answers.specs.declared.Answer.the-variants.{Good, Refused, Conflict, Unusable, Short}
@@ -54,6 +54,9 @@ detailOf NotListed = Nothing
 detailOf ListLength = Nothing
 detailOf NoPlace = Nothing
 detailOf OtherType = Nothing
+detailOf RegistrationsPreempted = Nothing
+detailOf ReservationsPreempted = Nothing
+detailOf ReservationsReleased = Nothing
 
 -- ---- fixed format
 

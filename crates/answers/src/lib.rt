@@ -9,7 +9,8 @@ pub mod sense;
 
 // The refusals that come with sense: each has one row in the table of answers. Two name the wrong field, of the CDB or of the parameter list, by
 // its first byte, its highest bit and how many bits it has. Sense has no room for the last; it is there so that one field is named and no other.
-// Two name a block: where the range begins that reaches past the capacity, or that is not to be written for lack of slots.
+// Two name a block: where the range begins that reaches past the capacity, or that is not to be written for lack of slots. The last three are what
+// can wait for a nexus, and share a number.
 pub enum Refusal {
     NotListed,
     InvalidField(u8, u8, u8),
@@ -19,6 +20,9 @@ pub enum Refusal {
     NoPlace,
     OtherType,
     NoRoom(u64),
+    RegistrationsPreempted,
+    ReservationsPreempted,
+    ReservationsReleased,
 }
 
 // A row of that table: 01's number, the sense key, the additional sense code and its qualifier.
@@ -143,6 +147,9 @@ pub fn codes_of(refusal: Refusal) -> Codes
         Refusal::NoPlace => row(6, 0x05, 0x55, 0x04),
         Refusal::OtherType => row(7, 0x05, 0x26, 0x04),
         Refusal::NoRoom(_) => row(8, 0x07, 0x27, 0x07),
+        Refusal::RegistrationsPreempted => row(13, 0x06, 0x2A, 0x05),
+        Refusal::ReservationsPreempted => row(13, 0x06, 0x2A, 0x03),
+        Refusal::ReservationsReleased => row(13, 0x06, 0x2A, 0x04),
     }
 }
 

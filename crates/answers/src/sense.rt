@@ -65,6 +65,9 @@ fn detail_of(refusal: Refusal) -> Detail
         Refusal::NoPlace => Detail::Nothing,
         Refusal::OtherType => Detail::Nothing,
         Refusal::NoRoom(address) => Detail::Address(address),
+        Refusal::RegistrationsPreempted => Detail::Nothing,
+        Refusal::ReservationsPreempted => Detail::Nothing,
+        Refusal::ReservationsReleased => Detail::Nothing,
     }
 }
 

@@ -6,6 +6,10 @@ use Prim.Native.Nat.{ℕ}
 abbrev pub lastNexus : ℕ
 lastNexus = 15
 
+-- Q-6: "each of the 16 nexuses"
+abbrev pub nexuses : ℕ
+nexuses = 16
+
 -- "registration places 8"
 abbrev pub registrationPlaces : ℕ
 registrationPlaces = 8

@@ -1,9 +1,21 @@
-// Who may do what, as a meaning: registrations, the reservation, the six actions and what is told of them.
+// Who may do what, as a meaning: registrations, the reservation, the six actions, what is told of them, and what waits for whom.
 // No code: the types stand here, what they mean in specs/, the laws in proofs/.
 use answers::Answer;
 
 // The highest nexus number.
 pub const LAST_NEXUS: u64 = 15;
+
+// How many there are.
+pub const NEXUSES: usize = 16;
+
+// What can wait for a nexus.
+pub const NO_ATTENTION: u8 = 0;
+
+pub const REGISTRATIONS_PREEMPTED: u8 = 1;
+
+pub const RESERVATIONS_PREEMPTED: u8 = 2;
+
+pub const RESERVATIONS_RELEASED: u8 = 3;
 
 // How many registration places there are.
 pub const REGISTRATION_PLACES: usize = 8;

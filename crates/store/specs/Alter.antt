@@ -1,4 +1,4 @@
--- PERSISTENT RESERVE OUT: it sees and changes the rights alone.
+-- PERSISTENT RESERVE OUT: its tests see the rights alone.
 -- Assumes nothing.
 use mathlib.Core.Bool.{not}
 use mathlib.Core.List.{List, _∷_}

@@ -1,5 +1,6 @@
 -- A fresh store: "no mapping, registration or reservation and generation 0. Making one is no call of a history and leaves the medium bytes;
--- bad bounds give 11 and leave all." Q-8: "Chosen when a store is made fresh, sense is fixed as now or descriptor format". Assumes nothing.
+-- bad bounds give 11 and leave all." Q-8: "Chosen when a store is made fresh, sense is fixed as now or descriptor format". Q-6: no attention waits,
+-- "none when fresh". Assumes nothing.
 use mathlib.Core.Bool.{not}
 use mathlib.Core.List.{List, [], _∷_}
 use Prim.Native.Nat.{ℕ}
@@ -12,11 +13,12 @@ use Rattle.answers.specs.Sense.{formatOk}
 use Rattle.pool.specs.Pool.{pool}
 use Rattle.pool.specs.Valid.{capacityOk, slotsOk}
 use Rattle.rights.specs.Rights.{noRights}
+use Rattle.rights.specs.Attentions.{noAttentions}
 use Rattle.store.specs.declared.Unit.{Unit}
 use Rattle.store.specs.Store.{Store}
 
 unfoldable pub freshUnit : ℕ → Unit
-freshUnit capacity = record { capacity = capacity; rights = noRights }
+freshUnit capacity = record { capacity = capacity; rights = noRights; attentions = noAttentions }
 
 -- the bounds and the format alone are tested: the medium is not lent
 unfoldable pub freshAnswer : ℕ → ℕ → ℕ → Answer

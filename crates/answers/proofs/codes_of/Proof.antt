@@ -52,6 +52,24 @@ enum-told-8 c = search needs
 row-requires-8 : tie.Need-row-requires-8
 row-requires-8 c κs = search needs
 
+enum-told-9 : tie.Need-enum-told-9
+enum-told-9 c = search needs
+
+row-requires-9 : tie.Need-row-requires-9
+row-requires-9 c κs = search needs
+
+enum-told-10 : tie.Need-enum-told-10
+enum-told-10 c = search needs
+
+row-requires-10 : tie.Need-row-requires-10
+row-requires-10 c κs = search needs
+
+enum-told-11 : tie.Need-enum-told-11
+enum-told-11 c = search needs
+
+row-requires-11 : tie.Need-row-requires-11
+row-requires-11 c κs = search needs
+
 returns : tie.Need-returns
 unfolding codesOf
 returns c = simp (c .before .enum-told .given .1, c .row .ensures)
@@ -84,6 +102,18 @@ returns-8 : tie.Need-returns-8
 unfolding codesOf
 returns-8 c = simp (c .before .enum-told8 .given .1, c .row8 .ensures)
 
+returns-9 : tie.Need-returns-9
+unfolding codesOf
+returns-9 c = simp (c .before .enum-told9 .given .1, c .row9 .ensures)
+
+returns-10 : tie.Need-returns-10
+unfolding codesOf
+returns-10 c = simp (c .before .enum-told10 .given .1, c .row10 .ensures)
+
+returns-11 : tie.Need-returns-11
+unfolding codesOf
+returns-11 c = simp (c .before .enum-told11 .given .1, c .row11 .ensures)
+
 pub codes-of-spec : {M : Type 1} → statement M
 codes-of-spec =
     tie.close
@@ -104,6 +134,12 @@ codes-of-spec =
     row-requires-7
     enum-told-8
     row-requires-8
+    enum-told-9
+    row-requires-9
+    enum-told-10
+    row-requires-10
+    enum-told-11
+    row-requires-11
     returns
     returns-2
     returns-3
@@ -111,4 +147,7 @@ codes-of-spec =
     returns-5
     returns-6
     returns-7
-    returns-8)
+    returns-8
+    returns-9
+    returns-10
+    returns-11)

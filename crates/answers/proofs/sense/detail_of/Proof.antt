@@ -40,6 +40,15 @@ enum-told-4 c = search needs
 enum-known-refusal-4 : tie.Need-enum-known-refusal-4
 enum-known-refusal-4 c = search needs
 
+enum-told-5 : tie.Need-enum-told-5
+enum-told-5 c = search needs
+
+enum-told-6 : tie.Need-enum-told-6
+enum-told-6 c = search needs
+
+enum-told-7 : tie.Need-enum-told-7
+enum-told-7 c = search needs
+
 returns : tie.Need-returns
 unfolding detailOf
 returns c = simp (c .enum-told .given .1)
@@ -72,6 +81,18 @@ returns-8 : tie.Need-returns-8
 unfolding detailOf
 returns-8 c = simp (c .before .refusal4 .given .1)
 
+returns-9 : tie.Need-returns-9
+unfolding detailOf
+returns-9 c = simp (c .enum-told5 .given .1)
+
+returns-10 : tie.Need-returns-10
+unfolding detailOf
+returns-10 c = simp (c .enum-told6 .given .1)
+
+returns-11 : tie.Need-returns-11
+unfolding detailOf
+returns-11 c = simp (c .enum-told7 .given .1)
+
 pub detail-of-spec : {M : Type 1} → statement M
 detail-of-spec =
     tie.close
@@ -88,6 +109,9 @@ detail-of-spec =
     enum-told-3
     enum-told-4
     enum-known-refusal-4
+    enum-told-5
+    enum-told-6
+    enum-told-7
     returns
     returns-2
     returns-3
@@ -95,4 +119,7 @@ detail-of-spec =
     returns-5
     returns-6
     returns-7
-    returns-8)
+    returns-8
+    returns-9
+    returns-10
+    returns-11)

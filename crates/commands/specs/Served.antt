@@ -5,7 +5,7 @@ use Prim.Native.Nat.{ℕ}
 use Rattle.answers.specs.declared.Answer.{Answer}
 use Rattle.answers.specs.declared.Answer.the-variants.{Unusable}
 use Rattle.answers.specs.Order.{first}
-use Rattle.rights.specs.declared.Rights.{Rights}
+use Rattle.rights.specs.declared.Action.{Action}
 use Rattle.rights.specs.declared.Decision.{Decision}
 use Rattle.forms.specs.declared.Command.{Command}
 use Rattle.forms.specs.declared.Entry.{Entry}
@@ -14,7 +14,7 @@ use Rattle.forms.specs.Forms.{askedIn}
 use Rattle.decoder.specs.declared.Decoded.{Decoded}
 use Rattle.decoder.specs.Decoding.{decoded}
 use Rattle.store.specs.declared.Unit.{Unit}
-use Rattle.store.specs.Store.{Store, Call, withRights}
+use Rattle.store.specs.Store.{Store, Call, enacted}
 use Rattle.store.specs.Step.{stageRows, commandRows, commandData, commandStore}
 use Rattle.store.specs.Fresh.{freshUnit}
 use Rattle.reply.specs.declared.Reply.{Reply}
@@ -30,13 +30,13 @@ replying reply unit = record { answer = reply .answer; returned = reply .returne
 abbrev pub bare : Answer → Unit → Outcome
 bare answer unit = record { answer = answer; returned = 0; unit = unit }
 
--- the outcome of a decision on the rights of a unit
-abbrev pub altersTo : Unit → Decision → Outcome
-altersTo u d = bare (d .answer) (withRights u (d .rights))
+-- the outcome of a decision on an action of a nexus
+abbrev pub altersTo : Action → ℕ → Unit → Decision → Outcome
+altersTo a nexus u d = bare (d .answer) (enacted a nexus u (d .rights))
 
 -- what the stages let pass
-unfoldable pub askedAt : Entry → Rights → ℕ → List ℕ → Decoded
-askedAt e r nexus cdb = decoded (first (stageRows e r nexus cdb)) (askedIn e cdb)
+unfoldable pub askedAt : Entry → Unit → ℕ → List ℕ → Decoded
+askedAt e u nexus cdb = decoded (first (stageRows e u nexus cdb)) (askedIn e cdb)
 
 -- a command, after the stages
 unfoldable pub servedBy : Command → Request → Store → Call → Served

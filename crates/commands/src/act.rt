@@ -3,12 +3,13 @@ ghost use mathlib.Core.Path.{_≡_};
 ghost use mathlib.Core.List.{[]};
 ghost use Prim.Native.Nat.{ℕ};
 ghost use Rattle.forms.proofs.Fields.{Fits};
-ghost use Rattle.store.specs.Store.{withRights};
+ghost use Rattle.store.specs.Store.{enacted, refusedUnit};
 ghost use Rattle.reply.specs.Contract.{storeOf, callOf};
 ghost use Rattle.reply.specs.Reply.{Bounded, served};
 ghost use Rattle.alter.specs.Altered.{altered};
 ghost use Rattle.commands.specs.Served.{servedBy, altersTo, bare, replying};
 use answers::Answer;
+use attentions::notices;
 use forms::Command;
 use forms::Request;
 use reply::Outcome;
@@ -16,6 +17,9 @@ use reply::Reply;
 use rights::Action;
 use rights::Rights;
 use store::Unit;
+
+// The number of the answers that return what waited for a nexus.
+const ATTENTION: u64 = 13;
 
 // An answer that returns no bytes.
 pub fn answered(answer: Answer, unit: Unit) -> Outcome
@@ -40,24 +44,41 @@ fn replied(reply: Reply, unit: Unit) -> Outcome
     }
 }
 
-// The unit with other rights.
-fn with_rights(unit: Unit, rights: Rights) -> Unit
-    ensures { λ r. ⌜ r ≡ withRights unit rights ⌝ }
+// The unit where an action of a nexus leaves these rights.
+fn enacted(action: Action, nexus: u64, unit: Unit, rights: Rights) -> Unit
+    ensures { λ r. ⌜ r ≡ enacted action nexus unit rights ⌝ }
 {
+    let attentions = notices::send(action, unit.rights, rights, nexus, unit.attentions);
     Unit {
         capacity: unit.capacity,
         rights,
+        attentions,
+    }
+}
+
+// The unit after a refusal: one that returns what waited for the nexus takes it away.
+pub fn refused_unit(answer: Answer, nexus: u64, unit: Unit) -> Unit
+    ensures { λ r. ⌜ r ≡ refusedUnit answer nexus unit ⌝ }
+{
+    if answers::number_of(answer) != ATTENTION {
+        return unit;
+    }
+    let attentions = attentions::returned_to(unit.attentions, nexus);
+    Unit {
+        capacity: unit.capacity,
+        rights: unit.rights,
+        attentions,
     }
 }
 
 // A command on the rights changes no block.
 fn alters(action: Action, request: Request, unit: Unit, nexus: u64, data_out: &[u8]) -> Outcome
-    ensures { λ r. ⌜ r ≡ altersTo unit (altered action request (unit .rights) nexus (now («data_out» .entry))) ⌝ }
+    ensures { λ r. ⌜ r ≡ altersTo action nexus unit (altered action request (unit .rights) nexus (now («data_out» .entry))) ⌝ }
 {
     let decision = alter::alter(action, request, unit.rights, nexus, data_out);
     let answer = decision.answer;
     let rights = decision.rights;
-    answered(answer, with_rights(unit, rights))
+    answered(answer, enacted(action, nexus, unit, rights))
 }
 
 // No command looks at the format of sense: what it leaves is the same of every one.

@@ -40,7 +40,7 @@ pub fn execute(
     match asked {
         Decoded::Wrong(answer) => {
             put_sense(format, answer, sense);
-            act::answered(answer, unit)
+            act::answered(answer, act::refused_unit(answer, nexus, unit))
         }
         Decoded::Asks(request) => {
             let outcome = act::act(request, unit, owners, medium, nexus, data_out, data_in);
@@ -55,12 +55,17 @@ pub fn execute(
     }
 }
 
-// A unit without registration and reservation.
+// A unit without registration and reservation, and with nothing waiting.
 fn fresh_unit(capacity: u64) -> Unit
     ensures { λ r. ⌜ r ≡ freshUnit capacity ⌝ }
 {
     let rights = reservations::standing::none();
-    Unit { capacity, rights }
+    let attentions = attentions::none();
+    Unit {
+        capacity,
+        rights,
+        attentions,
+    }
 }
 
 // What bad bounds and a format that is none give: a unit without blocks, so that every call on it is refused.

@@ -1,15 +1,28 @@
-// The stages of tests between the state of the store and a command's own: 1, 11 for the CDB's length, 2, and 10 by the conflict table.
+// The stages of tests between the state of the store and a command's own: 1, 11 for the CDB's length, 13, 2, and 10 by the conflict table.
 ghost use mathlib.Core.Path.{_≡_};
 ghost use Rattle.forms.specs.Forms.{entryOf};
+ghost use Rattle.store.specs.Step.{isInquiry};
 ghost use Rattle.commands.specs.Served.{askedAt};
 use answers::Answer;
 use decoder::Decoded;
+use fields::numbers;
 use forms::Entry;
+use rights::NO_ATTENTION;
 use store::Unit;
+
+// INQUIRY's operation code.
+const INQUIRY: u8 = 0x12;
+
+// Whether a command is INQUIRY, whatever else its CDB says.
+fn is_inquiry(cdb: &[u8]) -> bool
+    ensures { λ r. ⌜ r ≡ isInquiry (now (cdb .entry)) ⌝ }
+{
+    numbers::byte(cdb, 0) == INQUIRY
+}
 
 // The request of a call, or the first refusal on the way to it.
 pub fn asked(unit: Unit, nexus: u64, cdb: &[u8]) -> Decoded
-    ensures { λ r. ⌜ r ≡ askedAt (entryOf (now (cdb .entry))) (unit .rights) nexus (now (cdb .entry)) ⌝ }
+    ensures { λ r. ⌜ r ≡ askedAt (entryOf (now (cdb .entry))) unit nexus (now (cdb .entry)) ⌝ }
 {
     let entry = decoder::entry_of(cdb);
     let Entry::Listed(code) = entry else {
@@ -17,6 +30,13 @@ pub fn asked(unit: Unit, nexus: u64, cdb: &[u8]) -> Decoded
     };
     if cdb.len() != code.long {
         return Decoded::Wrong(Answer::Unusable);
+    }
+    let waiting = attentions::waiting(unit.attentions, nexus);
+    if waiting != NO_ATTENTION {
+        if !is_inquiry(cdb) {
+            let refusal = attentions::refusal_of(waiting);
+            return Decoded::Wrong(Answer::Refused(refusal));
+        }
     }
     let decoded = decoder::request(code, cdb);
     match decoded {

@@ -50,7 +50,11 @@ fn unit_ok(unit: Unit) -> bool
         return false;
     }
     let rights = unit.rights;
-    reservations::standing::valid(rights)
+    if !reservations::standing::valid(rights) {
+        return false;
+    }
+    let attentions = unit.attentions;
+    attentions::valid(attentions)
 }
 
 fn pool_ok(capacity: u64, owners: &[u64], medium: &[u8]) -> bool

@@ -6,3 +6,4 @@ pub mod Generation
 pub mod AttentionLaws
 pub mod Holders
 pub mod TakingOver
+pub mod NoticeLaws

@@ -6,19 +6,20 @@ use mathlib.Core.List.{List, [], _∷_, _++_, append-assoc}
 use Prim.Native.Nat.{ℕ, _≤_}
 use lib.Dec.{T, eqb, ltb, nltb→le}
 use lib.ListN.{length}
-use Rattle.fields.proofs.Tests.{not-not, false→T, T-true}
+use Rattle.fields.proofs.Tests.{not-not, false→T, T-true, T-false}
 use Rattle.answers.specs.declared.Answer.{Answer}
-use Rattle.answers.specs.declared.Answer.the-variants.{Good, Conflict, Unusable}
+use Rattle.answers.specs.declared.Answer.the-variants.{Good, Refused, Conflict, Unusable}
 use Rattle.answers.specs.Order.{Row, _if_, first, next, refuses, refusing, firstOf, nextBy, refusingBy}
-use Rattle.answers.proofs.OrderLaws.{row-fails, row-stop, first-append, next-after, next-refuses, next-refused, next-first, next-second, good-cases}
+use Rattle.answers.proofs.OrderLaws.{row-fails, row-pass, row-end, row-stop, first-append, next-after, next-refuses, next-refused, next-first, next-second, good-cases}
 use Rattle.answers.specs.Sense.{senseBytes}
 use Rattle.rights.specs.declared.Rights.{Rights}
+use Rattle.rights.specs.Attentions.{refusalOf}
 use Rattle.forms.specs.Forms.{entryOf, Asked, nothing, asks, askedOf}
 use Rattle.forms.specs.Tests.{codeRows, lengthRows, fieldRows}
 use Rattle.forms.proofs.Refusing.{code-refusing, length-refusing, field-refusing, unserved}
 use Rattle.store.specs.declared.Unit.{Unit}
-use Rattle.store.specs.Store.{Store, Call, usable}
-use Rattle.store.specs.Step.{callRows, storeRows, guardRows, stageRows, ownRows, answerBy, answerTo}
+use Rattle.store.specs.Store.{Store, Call, usable, waiting}
+use Rattle.store.specs.Step.{callRows, storeRows, due, attentionRows, guardRows, stageRows, ownRows, answerBy, answerTo}
 
 -- ---- the answer of each stage
 
@@ -33,6 +34,9 @@ codeAnswer c = first (codeRows (entryOf (c .cdb)))
 
 abbrev pub lengthAnswer : Call → Answer
 lengthAnswer c = first (lengthRows (entryOf (c .cdb)) (c .cdb))
+
+abbrev pub attentionAnswer : Unit → Call → Answer
+attentionAnswer u c = first (attentionRows u (c .nexus) (c .cdb))
 
 abbrev pub fieldAnswer : Call → Answer
 fieldAnswer c = first (fieldRows (entryOf (c .cdb)) (c .cdb))
@@ -53,6 +57,10 @@ store-refusing : (s : Store) → T (refusing (storeRows s))
 unfolding storeRows refusingBy refuses
 store-refusing s = tt
 
+pub attention-refusing : (u : Unit) (n : ℕ) (cdb : List ℕ) → T (refusing (attentionRows u n cdb))
+unfolding attentionRows refusingBy refuses
+attention-refusing u n cdb = tt
+
 pub guard-refusing : (x : Asked) (r : Rights) (n : ℕ) → T (refusing (guardRows x r n))
 unfolding guardRows refusingBy refuses
 guard-refusing nothing r n = tt
@@ -66,7 +74,9 @@ then xs ys a t e = first-append xs ys t ∙ ap (next (first xs)) e
 module _ (s : Store) (c : Call) where
   -- of the stages from the code on
   abbrev staged : Answer
-  staged = next (codeAnswer c) (next (lengthAnswer c) (next (fieldAnswer c) (next (guardAnswer (s .unit) c) (ownAnswer s c))))
+  staged =
+      next (codeAnswer c)
+      (next (lengthAnswer c) (next (attentionAnswer (s .unit) c) (next (fieldAnswer c) (next (guardAnswer (s .unit) c) (ownAnswer s c)))))
 
   pub parts : answerTo s c ≡ next (callAnswer (s .format) c) (next (storeAnswer s) staged)
   unfolding answerTo answerBy stageRows askedOf
@@ -76,8 +86,9 @@ module _ (s : Store) (c : Call) where
       (then (storeRows s) _ _ (store-refusing s)
       (then (codeRows (entryOf (c .cdb))) _ _ (code-refusing (entryOf (c .cdb)))
       (then (lengthRows (entryOf (c .cdb)) (c .cdb)) _ _ (length-refusing (entryOf (c .cdb)) (c .cdb))
+      (then (attentionRows (s .unit) (c .nexus) (c .cdb)) _ _ (attention-refusing (s .unit) (c .nexus) (c .cdb))
       (then (fieldRows (entryOf (c .cdb)) (c .cdb)) _ _ (field-refusing (entryOf (c .cdb)) (c .cdb))
-      (then (guardRows (askedOf (c .cdb)) (s .unit .rights) (c .nexus)) _ _ (guard-refusing (askedOf (c .cdb)) (s .unit .rights) (c .nexus)) refl))))))
+      (then (guardRows (askedOf (c .cdb)) (s .unit .rights) (c .nexus)) _ _ (guard-refusing (askedOf (c .cdb)) (s .unit .rights) (c .nexus)) refl)))))))
 
 -- ---- a usable store is not seen before a command's own tests
 
@@ -94,6 +105,21 @@ pub passes-usable : (s : Store) → storeAnswer s ≡ Good → T (usable s)
 unfolding storeRows refuses
 passes-usable s e = not-not (usable s) (false→T (not (usable s)) (row-fails Unusable _ _ tt e))
 
+-- ---- what waits is returned where it is due
+
+module _ (u : Unit) (n : ℕ) (cdb : List ℕ) where
+  pub undue-passes : T (not (due u n cdb)) → first (attentionRows u n cdb) ≡ Good
+  unfolding attentionRows
+  undue-passes t = row-pass (Refused (refusalOf (waiting u n))) (due u n cdb) [] (T-false _ t) ∙ row-end
+
+  pub passes-undue : first (attentionRows u n cdb) ≡ Good → T (not (due u n cdb))
+  unfolding attentionRows refuses
+  passes-undue e = false→T (due u n cdb) (row-fails (Refused (refusalOf (waiting u n))) (due u n cdb) [] tt e)
+
+  pub due-stops : T (due u n cdb) → first (attentionRows u n cdb) ≡ Refused (refusalOf (waiting u n))
+  unfolding attentionRows
+  due-stops t = row-stop (Refused (refusalOf (waiting u n))) (due u n cdb) [] (T-true _ t)
+
 -- ---- where who calls, the buffers and the store are right
 
 module _ (s : Store) (c : Call) (call : callAnswer (s .format) c ≡ Good) (store : T (usable s)) where
@@ -101,10 +127,15 @@ module _ (s : Store) (c : Call) (call : callAnswer (s .format) c ≡ Good) (stor
   pub from-code : answerTo s c ≡ staged s c
   from-code = parts s c ∙ next-after (callAnswer (s .format) c) _ call ∙ next-after (storeAnswer s) _ (usable-passes s store)
 
+  -- then what waits, and what is behind it
+  pub from-attention : codeAnswer c ≡ Good → lengthAnswer c ≡ Good
+      → answerTo s c ≡ next (attentionAnswer (s .unit) c) (next (fieldAnswer c) (next (guardAnswer (s .unit) c) (ownAnswer s c)))
+  from-attention code length = from-code ∙ next-after (codeAnswer c) _ code ∙ next-after (lengthAnswer c) _ length
+
   -- then the fields, and what is behind them
-  pub from-fields : codeAnswer c ≡ Good → lengthAnswer c ≡ Good
+  pub from-fields : codeAnswer c ≡ Good → lengthAnswer c ≡ Good → attentionAnswer (s .unit) c ≡ Good
       → answerTo s c ≡ next (fieldAnswer c) (next (guardAnswer (s .unit) c) (ownAnswer s c))
-  from-fields code length = from-code ∙ next-after (codeAnswer c) _ code ∙ next-after (lengthAnswer c) _ length
+  from-fields code length attention = from-attention code length ∙ next-after (attentionAnswer (s .unit) c) _ attention
 
 -- ---- where nothing before the guard refuses
 
@@ -113,17 +144,18 @@ pub record Cleared (s : Store) (c : Call) : Type 0 where
   pub store : T (usable s)
   pub code : codeAnswer c ≡ Good
   pub length : lengthAnswer c ≡ Good
+  pub attention : attentionAnswer (s .unit) c ≡ Good
   pub fields : fieldAnswer c ≡ Good
 
 -- the guard and the command's own tests decide
 pub cleared : (s : Store) (c : Call) → Cleared s c → answerTo s c ≡ next (guardAnswer (s .unit) c) (ownAnswer s c)
-cleared s c p = from-fields s c (p .call) (p .store) (p .code) (p .length) ∙ next-after (fieldAnswer c) _ (p .fields)
+cleared s c p = from-fields s c (p .call) (p .store) (p .code) (p .length) (p .attention) ∙ next-after (fieldAnswer c) _ (p .fields)
 
--- a call that is right by itself: who calls, the buffers, and the code, length and fields of the CDB
-pub itself-cleared : (s : Store) (c : Call) → T (usable s)
+-- a call that is right by itself, with nothing due: who calls, the buffers, and the code, length and fields of the CDB
+pub itself-cleared : (s : Store) (c : Call) → T (usable s) → T (not (due (s .unit) (c .nexus) (c .cdb)))
     → first (callRows (s .format) c ++ (codeRows (entryOf (c .cdb)) ++ (lengthRows (entryOf (c .cdb)) (c .cdb) ++ fieldRows (entryOf (c .cdb)) (c .cdb)))) ≡ Good
     → Cleared s c
-itself-cleared s c u e =
+itself-cleared s c u d e =
     let e₀ : next (callAnswer (s .format) c) (next (codeAnswer c) (next (lengthAnswer c) (fieldAnswer c))) ≡ Good =
     sym
     (then (callRows (s .format) c) _ _ (call-refusing (s .format) c)
@@ -137,6 +169,7 @@ itself-cleared s c u e =
       store = u;
       code = next-first (codeAnswer c) _ e₁;
       length = next-first (lengthAnswer c) _ e₂;
+      attention = undue-passes (s .unit) (c .nexus) (c .cdb) d;
       fields = next-second (lengthAnswer c) _ e₂;
     }
 
@@ -154,14 +187,17 @@ module _ (s : Store) (c : Call) (good : answerTo s c ≡ Good) where
   past-store : staged s c ≡ Good
   past-store = next-second (storeAnswer s) _ past-call
 
-  past-code : next (lengthAnswer c) (next (fieldAnswer c) (next (guardAnswer (s .unit) c) (ownAnswer s c))) ≡ Good
+  past-code : next (lengthAnswer c) (next (attentionAnswer (s .unit) c) (next (fieldAnswer c) (next (guardAnswer (s .unit) c) (ownAnswer s c)))) ≡ Good
   past-code = next-second (codeAnswer c) _ past-store
 
-  past-length : next (fieldAnswer c) (next (guardAnswer (s .unit) c) (ownAnswer s c)) ≡ Good
+  past-length : next (attentionAnswer (s .unit) c) (next (fieldAnswer c) (next (guardAnswer (s .unit) c) (ownAnswer s c))) ≡ Good
   past-length = next-second (lengthAnswer c) _ past-code
 
+  past-attention : next (fieldAnswer c) (next (guardAnswer (s .unit) c) (ownAnswer s c)) ≡ Good
+  past-attention = next-second (attentionAnswer (s .unit) c) _ past-length
+
   past-fields : next (guardAnswer (s .unit) c) (ownAnswer s c) ≡ Good
-  past-fields = next-second (fieldAnswer c) _ past-length
+  past-fields = next-second (fieldAnswer c) _ past-attention
 
   pub good-cleared : Cleared s c
   good-cleared = record {
@@ -169,7 +205,8 @@ module _ (s : Store) (c : Call) (good : answerTo s c ≡ Good) where
     store = passes-usable s (next-first (storeAnswer s) _ past-call);
     code = next-first (codeAnswer c) _ past-store;
     length = next-first (lengthAnswer c) _ past-code;
-    fields = next-first (fieldAnswer c) _ past-length;
+    attention = next-first (attentionAnswer (s .unit) c) _ past-length;
+    fields = next-first (fieldAnswer c) _ past-attention;
   }
 
   pub good-guard : guardAnswer (s .unit) c ≡ Good
@@ -188,7 +225,7 @@ call-nexus format c e = nltb→le 15 (c .nexus) (false→T (ltb 15 (c .nexus)) (
 pub guard-refused : (s : Store) (c : Call) → T (refuses (guardAnswer (s .unit) c)) → T (refuses (answerTo s c))
 guard-refused s c t =
     rw (parts s c, next-refuses (guardAnswer (s .unit) c) (ownAnswer s c) t)
-    (next-refused (callAnswer (s .format) c) _ (next-refused (storeAnswer s) _ (next-refused (codeAnswer c) _ (next-refused (lengthAnswer c) _ (next-refused (fieldAnswer c) _ t)))))
+    (next-refused (callAnswer (s .format) c) _ (next-refused (storeAnswer s) _ (next-refused (codeAnswer c) _ (next-refused (lengthAnswer c) _ (next-refused (attentionAnswer (s .unit) c) _ (next-refused (fieldAnswer c) _ t))))))
 
 -- a call for nothing that the table serves is refused
 pub unserved-refused : (s : Store) (c : Call) → askedOf (c .cdb) ≡ nothing → T (refuses (answerTo s c))
@@ -226,8 +263,9 @@ module _ (s t : Store) (c : Call) (u : T (usable s)) (v : T (usable t)) (f : s .
 
   staged-alike : staged s c ≡ staged t c
   staged-alike =
-      ap (λ (a : Answer). next (codeAnswer c) (next (lengthAnswer c) (next (fieldAnswer c) a)))
-      (past-guard ∙ ap (λ (x : Unit). next (guardAnswer x c) (ownAnswer t c)) e)
+      ap (λ (a : Answer). next (codeAnswer c) (next (lengthAnswer c) (next (attentionAnswer (s .unit) c) (next (fieldAnswer c) a)))) past-guard
+      ∙ ap
+      (λ (x : Unit). next (codeAnswer c) (next (lengthAnswer c) (next (attentionAnswer x c) (next (fieldAnswer c) (next (guardAnswer x c) (ownAnswer t c)))))) e
 
   pub answers-alike : answerTo s c ≡ answerTo t c
   answers-alike =
@@ -243,10 +281,11 @@ pub record SameRows (s : Store) (c d : Call) : Type 0 where
   pub call : callRows (s .format) c ≡ callRows (s .format) d
   pub code : codeRows (entryOf (c .cdb)) ≡ codeRows (entryOf (d .cdb))
   pub length : lengthRows (entryOf (c .cdb)) (c .cdb) ≡ lengthRows (entryOf (d .cdb)) (d .cdb)
+  pub attention : attentionRows (s .unit) (c .nexus) (c .cdb) ≡ attentionRows (s .unit) (d .nexus) (d .cdb)
   pub fields : fieldRows (entryOf (c .cdb)) (c .cdb) ≡ fieldRows (entryOf (d .cdb)) (d .cdb)
   pub guard : guardRows (askedOf (c .cdb)) (s .unit .rights) (c .nexus) ≡ guardRows (askedOf (d .cdb)) (s .unit .rights) (d .nexus)
   pub own : ownRows (askedOf (c .cdb)) s c ≡ ownRows (askedOf (d .cdb)) s d
 
 pub same-answer : (s : Store) (c d : Call) → SameRows s c d → answerTo s c ≡ answerTo s d
 unfolding answerTo answerBy stageRows askedOf
-same-answer s c d e = rw (e .call, e .code, e .length, e .fields, e .guard, e .own)
+same-answer s c d e = rw (e .call, e .code, e .length, e .attention, e .fields, e .guard, e .own)

@@ -1,11 +1,12 @@
 -- Laws of `step` that its reader may want to see first: what a call leaves, and which command sees and changes what.
 -- Assumes nothing.
 use mathlib.Core.Path.{_≡_, refl, ap, ap₂, _∙_}
-use mathlib.Core.Bool.{true, not}
+use mathlib.Core.Bool.{Bool, true, false, not, cond}
 use Prim.Native.Nat.{ℕ}
 use lib.Dec.{T}
 use Rattle.answers.specs.declared.Answer.{Answer}
 use Rattle.answers.specs.declared.Answer.the-variants.{Good, Refused, Conflict, Unusable, Short}
+use Rattle.answers.specs.Answers.{isAttention}
 use Rattle.answers.specs.Order.{first, ifGoodBy, refuses}
 use Rattle.answers.proofs.OrderLaws.{row-stop, if-good, if-refused, good-cases}
 use Rattle.pool.specs.Pool.{Pool}
@@ -17,7 +18,7 @@ use Rattle.forms.specs.declared.Request.{Request}
 use Rattle.forms.specs.Forms.{Asked, nothing, asks, askedOf}
 use Rattle.forms.proofs.Table.{isMoves, isAlters, movesIn, altersIn}
 use Rattle.store.specs.declared.Unit.{Unit}
-use Rattle.store.specs.Store.{Store, Call, withRights, leaves, seenOf}
+use Rattle.store.specs.Store.{Store, Call, withUnit, relieved, enacted, refusedUnit, leaves, seenOf}
 use Rattle.store.specs.Tell.{told, tellRows}
 use Rattle.store.specs.Alter.{parametersOf, alterRows}
 use Rattle.store.specs.Conflict.{conflict}
@@ -45,7 +46,11 @@ module _ (s : Store) (c : Call) where
   unfolding step stepBy answerTo askedOf
   step-seen = refl
 
-  pub step-store : step s c .store ≡ leaves (answerTo s c) (storeBy (askedOf (c .cdb)) s c) s
+  -- what a refusal leaves: all, but the attention that it returns
+  abbrev pub refusedStore : Store
+  refusedStore = withUnit s (refusedUnit (answerTo s c) (c .nexus) (s .unit))
+
+  pub step-store : step s c .store ≡ leaves (answerTo s c) (storeBy (askedOf (c .cdb)) s c) refusedStore
   unfolding step stepBy answerTo askedOf
   step-store = refl
 
@@ -68,12 +73,26 @@ leaves-both R Conflict done s done′ s′ x y = y
 leaves-both R Unusable done s done′ s′ x y = y
 leaves-both R Short done s done′ s′ x y = y
 
--- what holds of the store before a call, and of what it does where it is GOOD, holds of what it leaves
-pub step-ways : (P : Store → Type 0) (s : Store) (c : Call) → (answerTo s c ≡ Good → P (storeBy (askedOf (c .cdb)) s c)) → P s → P (step s c .store)
-step-ways P s c done kept =
+-- the store once what waited for the caller was returned
+abbrev pub relievedStore : Store → Call → Store
+relievedStore s c = withUnit s (relieved (s .unit) (c .nexus))
+
+refused-ways : (P : Unit → Type 0) (a : Answer) (n : ℕ) (u : Unit) → P u → (T (isAttention a) → P (relieved u n)) → P (refusedUnit a n u)
+unfolding refusedUnit
+refused-ways P a n u kept told = go (isAttention a) told
+  where
+    go : (b : Bool) → (T b → P (relieved u n)) → P (cond b (relieved u n) u)
+    go true h = h tt
+    go false h = kept
+
+-- what holds of the store before a call, of what the call does where it is GOOD, and of the store once it returned what waited, holds of what it leaves
+pub step-ways : (P : Store → Type 0) (s : Store) (c : Call) → (answerTo s c ≡ Good → P (storeBy (askedOf (c .cdb)) s c)) → P s
+    → (T (isAttention (answerTo s c)) → P (relievedStore s c)) → P (step s c .store)
+step-ways P s c done kept told =
     rw (step-store s c) (good-cases (answerTo s c)
-    (λ g. rw (leaves-good (answerTo s c) (storeBy (askedOf (c .cdb)) s c) s g) (done g))
-    (λ t. rw (leaves-refused (answerTo s c) (storeBy (askedOf (c .cdb)) s c) s t) kept))
+    (λ g. rw (leaves-good (answerTo s c) (storeBy (askedOf (c .cdb)) s c) (refusedStore s c) g) (done g))
+    (λ t. rw (leaves-refused (answerTo s c) (storeBy (askedOf (c .cdb)) s c) (refusedStore s c) t)
+    (refused-ways (λ u. P (withUnit s u)) (answerTo s c) (c .nexus) (s .unit) kept told)))
 
 -- ---- a command that moves nothing sees the unit's record alone
 
@@ -106,7 +125,7 @@ pub command-unit : (k : Command) (q : Request) (s t : Store) (c : Call) → s .u
 unfolding commandStore
 command-unit (Tells x) q s t c e = e
 command-unit (Moves m) q s t c e = e
-command-unit (Alters a) q s t c e = ap (λ (u : Unit). withRights u (acted a (u .rights) (c .nexus) (parametersOf q (c .dataOut)))) e
+command-unit (Alters a) q s t c e = ap (λ (u : Unit). enacted a (c .nexus) u (acted a (u .rights) (c .nexus) (parametersOf q (c .dataOut)))) e
 
 pub unit-by : (x : Asked) (s t : Store) (c : Call) → s .unit ≡ t .unit → storeBy x s c .unit ≡ storeBy x t c .unit
 unfolding storeBy
@@ -150,7 +169,7 @@ format-left nothing s c = refl
 format-left (asks q) s c = command-keeps-format (q .command) q s c
 
 pub format-kept : (s : Store) (c : Call) → step s c .store .format ≡ s .format
-format-kept s c = step-ways (λ t. t .format ≡ s .format) s c (λ _. format-left (askedOf (c .cdb)) s c) refl
+format-kept s c = step-ways (λ t. t .format ≡ s .format) s c (λ _. format-left (askedOf (c .cdb)) s c) refl (λ _. refl)
 
 -- one that does neither changes nothing
 pub store-left : (x : Asked) (s : Store) (c : Call) → T (not (altersIn x)) → T (not (movesIn x)) → storeBy x s c ≡ s

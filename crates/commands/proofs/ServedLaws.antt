@@ -1,7 +1,7 @@
 -- What a served command leaves is what its part leaves: commands that tell, alter, or move blocks.
 -- Assumes nothing.
 use mathlib.Core.Path.{_≡_, refl, ap, _∙_}
-use mathlib.Core.List.{List}
+use mathlib.Core.List.{List, []}
 use Prim.Native.Nat.{ℕ, _≤_}
 use lib.Dec.{T}
 use Rattle.answers.specs.declared.Answer.{Answer}
@@ -11,6 +11,8 @@ use Rattle.pool.specs.Bounds.{mostTransfer}
 use Rattle.pool.specs.Pool.{Pool, pool}
 use Rattle.rights.specs.declared.Rights.{Rights}
 use Rattle.rights.specs.declared.Action.{Action}
+use Rattle.rights.specs.Actions.{acted}
+use Rattle.rights.proofs.AttentionLaws.{notified-still}
 use Rattle.forms.specs.declared.Tell.{Tell}
 use Rattle.forms.specs.declared.Move.{Move}
 use Rattle.forms.specs.declared.Move.the-variants.{Read, Write, WriteSame, Unmap, Status}
@@ -19,7 +21,8 @@ use Rattle.forms.specs.declared.Command.the-variants.{Tells, Moves, Alters}
 use Rattle.forms.specs.declared.Request.{Request}
 use Rattle.forms.proofs.Fields.{isCounted, Fits}
 use Rattle.store.specs.declared.Unit.{Unit}
-use Rattle.store.specs.Store.{Call, withRights, leaves}
+use Rattle.store.specs.Store.{Call, withAttentions, enacted, leaves}
+use Rattle.store.specs.Alter.{parametersOf, alterRows}
 use Rattle.store.specs.Move.{moveRows, moved, fetched}
 use Rattle.store.specs.Step.{commandRows, commandData, commandStore}
 use Rattle.reply.specs.declared.Outcome.{Outcome}
@@ -56,17 +59,28 @@ whole-pool Conflict bs format u done kept dataIn = refl
 whole-pool Unusable bs format u done kept dataIn = refl
 whole-pool Short bs format u done kept dataIn = refl
 
+-- an action that leaves the rights leaves the unit
+enacted-still : (a : Action) (n : ℕ) (u : Unit) → enacted a n u (u .rights) ≡ u
+unfolding enacted
+enacted-still a n u = ap (withAttentions u) (notified-still (u .rights) a n (u .attentions))
+
 module _ (format : ℕ) (k : Command) (q : Request) (u : Unit) (owners medium : List ℕ) (c : Call) where
   pub tells-served : (t : Tell) (v : Replied) → k ≡ Tells t → v ≡ tells t q u (c .dataIn)
       → serving v (storeOf format u owners medium) ≡ servedBy k q (storeOf format u owners medium) c
   unfolding servedBy commandRows commandData commandStore
   tells-served t v e h = rw e (serves-reply _ _ (storeOf format u owners medium) (c .dataIn) v h)
 
-  pub alters-served : (a : Action) (r : Outcome) → k ≡ Alters a → r ≡ altersTo u (altered a q (u .rights) (c .nexus) (c .dataOut))
+  pub alters-served : (a : Action) (r : Outcome) → k ≡ Alters a → r ≡ altersTo a (c .nexus) u (altered a q (u .rights) (c .nexus) (c .dataOut))
       → served format r owners medium (c .dataIn) ≡ servedBy k q (storeOf format u owners medium) c
   unfolding servedBy commandRows commandData commandStore altered
   alters-served a r e h =
-      rw (e, h) (serves-part (λ (x : Rights). storeOf format (withRights u x) owners medium) _ _ (u .rights) (c .dataIn))
+      rw (e, h)
+      (serves-part (λ (x : Rights). storeOf format (enacted a (c .nexus) u x) owners medium) _ _ (u .rights) (c .dataIn)
+      ∙ ap
+      (λ (x : Unit). serves (first (alterRows a q (u .rights) (c .nexus) (c .dataOut))) []
+      (storeOf format (enacted a (c .nexus) u (acted a (u .rights) (c .nexus) (parametersOf q (c .dataOut)))) owners medium)
+      (storeOf format x owners medium) (c .dataIn))
+      (enacted-still a (c .nexus) u))
 
   pub moves-served : (m : Move) (v : Replied) (owners′ medium′ : List ℕ) → k ≡ Moves m
       → moving v owners′ medium′ ≡ moves m q (u .capacity) (pool owners medium) (c .dataOut) (c .dataIn)

@@ -48,7 +48,8 @@ fn replied(reply: Reply, unit: Unit) -> Outcome
 fn enacted(action: Action, nexus: u64, unit: Unit, rights: Rights) -> Unit
     ensures { λ r. ⌜ r ≡ enacted action nexus unit rights ⌝ }
 {
-    let attentions = notices::send(action, unit.rights, rights, nexus, unit.attentions);
+    let old = unit.attentions;
+    let attentions = notices::send(action, unit.rights, rights, nexus, old);
     Unit {
         capacity: unit.capacity,
         rights,
@@ -63,12 +64,11 @@ pub fn refused_unit(answer: Answer, nexus: u64, unit: Unit) -> Unit
     if answers::number_of(answer) != ATTENTION {
         return unit;
     }
-    let attentions = attentions::returned_to(unit.attentions, nexus);
-    Unit {
-        capacity: unit.capacity,
-        rights: unit.rights,
-        attentions,
-    }
+    let old = unit.attentions;
+    let attentions = attentions::returned_to(old, nexus);
+    let mut after = unit;
+    after.attentions = attentions;
+    after
 }
 
 // A command on the rights changes no block.

@@ -1,5 +1,8 @@
 // The stages of tests between the state of the store and a command's own: 1, 11 for the CDB's length, 13, 2, and 10 by the conflict table.
 ghost use mathlib.Core.Path.{_≡_};
+ghost use mathlib.Core.Bool.{not, _&&_};
+ghost use lib.Dec.{eqb};
+ghost use Rattle.rights.specs.Attentions.{noAttention};
 ghost use Rattle.forms.specs.Forms.{entryOf};
 ghost use Rattle.store.specs.Step.{isInquiry};
 ghost use Rattle.commands.specs.Served.{askedAt};
@@ -13,11 +16,14 @@ use store::Unit;
 // INQUIRY's operation code.
 const INQUIRY: u8 = 0x12;
 
-// Whether a command is INQUIRY, whatever else its CDB says.
-fn is_inquiry(cdb: &[u8]) -> bool
-    ensures { λ r. ⌜ r ≡ isInquiry (now (cdb .entry)) ⌝ }
+// Whether what waits is due with a CDB: any but INQUIRY's, whatever else it says.
+fn is_due(waiting: u8, cdb: &[u8]) -> bool
+    ensures { λ r. ⌜ r ≡ (not (eqb waiting noAttention) && not (isInquiry (now (cdb .entry)))) ⌝ }
 {
-    numbers::byte(cdb, 0) == INQUIRY
+    if waiting == NO_ATTENTION {
+        return false;
+    }
+    !(numbers::byte(cdb, 0) == INQUIRY)
 }
 
 // The request of a call, or the first refusal on the way to it.
@@ -31,12 +37,11 @@ pub fn asked(unit: Unit, nexus: u64, cdb: &[u8]) -> Decoded
     if cdb.len() != code.long {
         return Decoded::Wrong(Answer::Unusable);
     }
-    let waiting = attentions::waiting(unit.attentions, nexus);
-    if waiting != NO_ATTENTION {
-        if !is_inquiry(cdb) {
-            let refusal = attentions::refusal_of(waiting);
-            return Decoded::Wrong(Answer::Refused(refusal));
-        }
+    let attentions = unit.attentions;
+    let waiting = attentions::waiting(attentions, nexus);
+    if is_due(waiting, cdb) {
+        let refusal = attentions::refusal_of(waiting);
+        return Decoded::Wrong(Answer::Refused(refusal));
     }
     let decoded = decoder::request(code, cdb);
     match decoded {

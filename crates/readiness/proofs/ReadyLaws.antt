@@ -16,6 +16,7 @@ use Rattle.pool.specs.Valid.{capacityOk, slotsOk, mapOk, poolOk, checked}
 use Rattle.pool.specs.Pool.{pool}
 use Rattle.pool.proofs.Clashes.{checked-valid, valid-checked}
 use Rattle.rights.specs.Rights.{rightsOk}
+use Rattle.rights.specs.Attentions.{attentionsOk}
 use Rattle.store.specs.declared.Unit.{Unit}
 use Rattle.store.specs.Store.{Store, Call, unitOk, usable}
 use Rattle.reply.specs.Contract.{storeOf, callOf}
@@ -35,7 +36,7 @@ module _ (format : ℕ) (u : Unit) (owners medium : List ℕ) (t : T (usable (st
 
   capacity-part : T (capacityOk (u .capacity))
   unfolding unitOk
-  capacity-part = and-l (capacityOk (u .capacity)) (rightsOk (u .rights)) unit-part
+  capacity-part = and-l (capacityOk (u .capacity)) (rightsOk (u .rights) && attentionsOk (u .attentions)) unit-part
 
   slots-part : T (slotsOk (length owners))
   unfolding poolOk
@@ -118,11 +119,15 @@ module _ (capacity : ℕ) (owners : List ℕ) where
 module _ (u : Unit) where
   pub unit-bad : capacityOk (u .capacity) ≡ false → false ≡ unitOk u
   unfolding unitOk
-  unit-bad e = and-false (capacityOk (u .capacity)) (rightsOk (u .rights)) e
+  unit-bad e = and-false (capacityOk (u .capacity)) (rightsOk (u .rights) && attentionsOk (u .attentions)) e
 
-  pub unit-rest : capacityOk (u .capacity) ≡ true → rightsOk (u .rights) ≡ unitOk u
+  pub unit-wrong : rightsOk (u .rights) ≡ false → false ≡ unitOk u
   unfolding unitOk
-  unit-rest e = and-rest (capacityOk (u .capacity)) (rightsOk (u .rights)) e
+  unit-wrong e = and-second (capacityOk (u .capacity)) _ (sym (and-false (rightsOk (u .rights)) (attentionsOk (u .attentions)) e))
+
+  pub unit-rest : capacityOk (u .capacity) ≡ true → rightsOk (u .rights) ≡ true → attentionsOk (u .attentions) ≡ unitOk u
+  unfolding unitOk
+  unit-rest e f = and-rest (rightsOk (u .rights)) (attentionsOk (u .attentions)) f ∙ and-rest (capacityOk (u .capacity)) _ e
 
 pub slots-few : (n : ℕ) → slotsOk n ≡ true → n ≤ 128
 unfolding slotsOk

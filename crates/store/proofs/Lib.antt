@@ -5,3 +5,4 @@ pub mod MoveLaws
 pub mod Returned
 pub mod SameLaws
 pub mod VitalLaws
+pub mod Rows

@@ -37,6 +37,9 @@ enum-known-asked c = search needs
 put-sense-requires : tie.Need-put-sense-requires
 put-sense-requires c κs = ready-sense _ _ _ _ _ _ _ (sym (c .before .before .before .before .before .before .ready .ensures) ∙ not-false _ (c .before .before .before .before .before .if1 .left))
 
+refused-unit-requires : tie.Need-refused-unit-requires
+refused-unit-requires c κs = search needs
+
 answered-requires-2 : tie.Need-answered-requires-2
 answered-requires-2 c κs = search needs
 
@@ -77,7 +80,7 @@ same-length-10 : tie.Need-same-length-10
 same-length-10 c = search needs
 
 returns-3 : tie.Need-returns-3
-returns-3 c = rw (c .answered2 .ensures) (step-wrong _ _ _ _ _ _ (sym (c .before .before .before .before .before .before .before .before .before .before .ready .ensures) ∙ not-false _ (c .before .before .before .before .before .before .before .before .before .if1 .left)) _ _ (sym (c .before .before .before .before .before .before .before .before .asked .ensures) ∙ (c .before .before .before .before .before .before .asked2 .given .1)) (c .before .before .before .put-sense .ensures))
+returns-3 c = rw (c .answered2 .ensures, c .before .refused-unit .ensures) (step-wrong _ _ _ _ _ _ (sym (c .before .before .before .before .before .before .before .before .before .before .before .ready .ensures) ∙ not-false _ (c .before .before .before .before .before .before .before .before .before .before .if1 .left)) _ _ (sym (c .before .before .before .before .before .before .before .before .before .asked .ensures) ∙ (c .before .before .before .before .before .before .before .asked2 .given .1)) (c .before .before .before .before .put-sense .ensures))
 
 same-length-11 : tie.Need-same-length-11
 same-length-11 c = search needs
@@ -107,6 +110,7 @@ execute-spec =
     asked-requires
     enum-known-asked
     put-sense-requires
+    refused-unit-requires
     answered-requires-2
     enum-known-asked-2
     act-requires

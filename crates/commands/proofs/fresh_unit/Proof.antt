@@ -8,9 +8,12 @@ use Rattle.commands.proofs.fresh_unit.Reads as reads
 none-requires : tie.Need-none-requires
 none-requires c κs = search needs
 
+none-requires-2 : tie.Need-none-requires-2
+none-requires-2 c κs = search needs
+
 returns : tie.Need-returns
 unfolding freshUnit
-returns c = rw (c .none .ensures)
+returns c = rw (c .before .none .ensures, c .none2 .ensures)
 
 pub fresh-unit-spec : {M : Type 1} → statement M
-fresh-unit-spec = tie.close (tie.spec none-requires returns)
+fresh-unit-spec = tie.close (tie.spec none-requires none-requires-2 returns)

@@ -1,2 +1,3 @@
 pub mod OrderLaws
 pub mod SenseLaws
+pub mod Refusals

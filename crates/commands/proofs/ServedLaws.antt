@@ -1,16 +1,18 @@
 -- What a served command leaves is what its part leaves: commands that tell, alter, or move blocks.
 -- Assumes nothing.
-use mathlib.Core.Path.{_≡_, refl, ap, _∙_}
+use mathlib.Core.Path.{_≡_, refl, sym, ap, _∙_, subst}
 use mathlib.Core.List.{List, []}
 use Prim.Native.Nat.{ℕ, _≤_}
 use lib.Dec.{T}
 use Rattle.answers.specs.declared.Answer.{Answer}
 use Rattle.answers.specs.declared.Answer.the-variants.{Good, Refused, Conflict, Unusable, Short}
 use Rattle.answers.specs.Order.{first, ifGood, ifGoodBy, refuses}
+use Rattle.answers.proofs.OrderLaws.{if-refused}
 use Rattle.pool.specs.Bounds.{mostTransfer}
 use Rattle.pool.specs.Pool.{Pool, pool}
 use Rattle.rights.specs.declared.Rights.{Rights}
 use Rattle.rights.specs.declared.Action.{Action}
+use Rattle.rights.specs.declared.Decision.{Decision}
 use Rattle.rights.specs.Actions.{acted}
 use Rattle.rights.proofs.AttentionLaws.{notified-still}
 use Rattle.forms.specs.declared.Tell.{Tell}
@@ -32,7 +34,7 @@ use Rattle.reply.proofs.ReplyLaws.{serving, serves-reply, serves-part}
 use Rattle.tell.specs.Telling.{tells}
 use Rattle.alter.specs.Altered.{altered}
 use Rattle.blocks.specs.Moved.{Moved, moving, moves}
-use Rattle.commands.specs.Served.{altersTo, servedBy}
+use Rattle.commands.specs.Served.{bare, altersTo, servedBy}
 
 -- a command on the blocks sees nothing of a call but the data
 unseen : (m : Move) (q : Request) (capacity : ℕ) (p : Pool) (c : Call)
@@ -63,6 +65,16 @@ whole-pool Short bs format u done kept dataIn = refl
 enacted-still : (a : Action) (n : ℕ) (u : Unit) → enacted a n u (u .rights) ≡ u
 unfolding enacted
 enacted-still a n u = ap (withAttentions u) (notified-still (u .rights) a n (u .attentions))
+
+-- so a refused one leaves it
+pub altered-refused : (a : Action) (q : Request) (n : ℕ) (dataOut : List ℕ) (u : Unit) (x : Decision) → x ≡ altered a q (u .rights) n dataOut
+    → T (refuses (x .answer)) → bare (x .answer) u ≡ altersTo a n u (altered a q (u .rights) n dataOut)
+unfolding altered
+altered-refused a q n dataOut u x e t =
+    ap (λ (d : Decision). bare (d .answer) u) e
+    ∙ ap (bare _) (sym (enacted-still a n u))
+    ∙ ap (λ (r : Rights). bare (first (alterRows a q (u .rights) n dataOut)) (enacted a n u r))
+    (sym (if-refused (first (alterRows a q (u .rights) n dataOut)) _ (u .rights) (subst (λ (d : Decision). T (refuses (d .answer))) e t)))
 
 module _ (format : ℕ) (k : Command) (q : Request) (u : Unit) (owners medium : List ℕ) (c : Call) where
   pub tells-served : (t : Tell) (v : Replied) → k ≡ Tells t → v ≡ tells t q u (c .dataIn)

@@ -77,6 +77,9 @@ fn alters(action: Action, request: Request, unit: Unit, nexus: u64, data_out: &[
 {
     let decision = alter::alter(action, request, unit.rights, nexus, data_out);
     let answer = decision.answer;
+    let Answer::Good = answer else {
+        return answered(answer, unit);
+    };
     let rights = decision.rights;
     answered(answer, enacted(action, nexus, unit, rights))
 }

@@ -1,195 +1,29 @@
--- Which answers the rows of the order have, stage by stage: 2 comes of the fields alone, 5 of a command's own tests alone.
+-- Which stage of the order an answer comes of: 2 of the fields alone, 13 of what waits alone, 3, 5 and 8 of a command's own tests alone.
 -- Assumes nothing.
-use mathlib.Core.Path.{_≡_, _∙_}
-use mathlib.Core.Bool.{Bool, true, false, not, _&&_}
-use mathlib.Core.List.{List, [], _∷_, _++_}
-use Prim.Native.Nat.{ℕ, _+_, _*_, _-_}
-use lib.Dec.{T, T-not, eqb, ltb, leb}
-use lib.ListN.{length}
-use Rattle.fields.specs.Bits.{Bits, within, firstByte, topBit, bitCount}
-use Rattle.fields.proofs.Tests.{both}
-use Rattle.answers.specs.declared.Refusal.{Refusal}
-use Rattle.answers.specs.declared.Refusal.the-variants.{OutOfRange, ListLength, NoPlace, OtherType, NoRoom}
+use mathlib.Core.Path.{_≡_, refl, ap, _∙_, subst}
+use mathlib.Core.Bool.{Bool, true, false, not, cond}
+use Prim.Native.Nat.{ℕ}
+use lib.Dec.{T, T-not, eqb}
+use Rattle.fields.specs.Bits.{Bits}
+use Rattle.fields.proofs.Tests.{test}
+use Rattle.answers.specs.declared.Refusal.the-variants.{RegistrationsPreempted, ReservationsPreempted, ReservationsReleased}
 use Rattle.answers.specs.declared.Answer.{Answer}
-use Rattle.answers.specs.declared.Answer.the-variants.{Good, Refused, Conflict, Unusable, Short}
-use Rattle.answers.specs.Answers.{codesOf, numberOf, notListed, invalidField, listLength, listField, noPlace, otherType}
-use Rattle.answers.specs.Order.{Row, _if_, first, next, refuses, refusing, firstOf, refusingBy}
+use Rattle.answers.specs.declared.Answer.the-variants.{Good, Refused, Conflict, Unusable}
+use Rattle.answers.specs.Answers.{codesOf, numberOf, notListed, invalidField}
+use Rattle.answers.specs.Order.{first, next, refuses}
 use Rattle.answers.proofs.OrderLaws.{next-after, next-refuses, good-cases}
-use Rattle.pool.specs.Pool.{Pool}
-use Rattle.rights.specs.declared.Rights.{Rights}
-use Rattle.rights.specs.declared.Action.{Action}
-use Rattle.rights.specs.declared.Action.the-variants.{Register, Reserve, Release, Clear, Preempt, RegisterIgnoring}
-use Rattle.rights.specs.declared.Parameters.{Parameters}
-use Rattle.rights.specs.Actions.{serviceKeyBits, flagsByte, registerFlags, flagRows, actionRows, decisionRows}
-use Rattle.descriptors.specs.Descriptors.{dataLengthBits}
-use Rattle.forms.specs.declared.Move.{Move}
-use Rattle.forms.specs.declared.Move.the-variants.{Read, Write, WriteSame, Unmap, Status}
-use Rattle.forms.specs.declared.Command.{Command}
-use Rattle.forms.specs.declared.Command.the-variants.{Tells, Moves, Alters}
-use Rattle.forms.specs.declared.Entry.{Entry}
-use Rattle.forms.specs.declared.Entry.the-variants.{Listed, Unlisted}
-use Rattle.forms.specs.declared.Request.{Request}
-use Rattle.forms.specs.Forms.{entryOf, Asked, nothing, asks, askedOf}
-use Rattle.forms.specs.Tests.{Check, codeRows, lengthRows, checkRows, checksOf, fieldRows}
-use Rattle.store.specs.Store.{Store, Call, usable}
-use Rattle.store.specs.Tell.{tellRows}
-use Rattle.store.specs.Move.{readRows, writeRows, sameRows, unmapRows, statusRows, moveRows}
-use Rattle.store.specs.Alter.{parametersOf, alterRows}
-use Rattle.store.specs.Step.{callRows, storeRows, guardRows, commandRows, ownRows, answerTo}
-use Rattle.store.proofs.Parts.{callAnswer, storeAnswer, codeAnswer, lengthAnswer, fieldAnswer, guardAnswer, ownAnswer, parts, from-fields, passes-usable}
+use Rattle.rights.specs.Attentions.{refusalOf}
+use Rattle.forms.specs.Forms.{entryOf, Asked, askedOf}
+use Rattle.store.specs.Store.{Store, Call, usable, waiting}
+use Rattle.store.specs.Step.{due, ownRows, answerTo}
+use Rattle.store.proofs.Parts.{callAnswer, storeAnswer, codeAnswer, lengthAnswer, attentionAnswer, fieldAnswer, guardAnswer, ownAnswer, parts, from-attention, from-fields, passes-usable, undue-passes, due-stops}
+use Rattle.store.proofs.Rows.{next-is, none, call-each, store-each, code-each, length-each, attention-each, guard-each, field-each, own-each, says}
 
--- ---- what holds of the answer of every row, and of GOOD, holds of what is answered
-
-unfoldable pub Each : (Answer → Type 0) → List Row → Type 0
-Each Q [] = T true
-Each Q ((a if b) ∷ rows) = Q a × Each Q rows
-
-module _ (Q : Answer → Type 0) where
-  each-append : (xs ys : List Row) → Each Q xs → Each Q ys → Each Q (xs ++ ys)
-  unfolding Each
-  each-append [] ys h k = k
-  each-append ((a if b) ∷ xs) ys h k = (h .0, each-append xs ys (h .1) k)
-
-  pub first-is : (rows : List Row) → Q Good → Each Q rows → Q (first rows)
-  unfolding Each firstOf
-  first-is [] g h = g
-  first-is ((a if true) ∷ rows) g h = h .0
-  first-is ((a if false) ∷ rows) g h = first-is rows g (h .1)
-
-  pub next-is : (a b : Answer) → Q a → Q b → Q (next a b)
-  next-is a b p q = good-cases a (λ g. rw (next-after a b g) q) (λ r. rw (next-refuses a b r) p)
-
-pub each-refusing : (rows : List Row) → Each (λ a. T (refuses a)) rows → T (refusing rows)
-unfolding Each refusingBy
-each-refusing [] h = tt
-each-refusing ((a if b) ∷ rows) h = both (refuses a) (refusing rows) (h .0) (each-refusing rows (h .1))
-
--- answers of some kind, as those with one number: rows that have none of them
-pub none : (P : Answer → Bool) (rows : List Row) → T (not (P Good)) → Each (λ a. T (not (P a))) rows → T (not (P (first rows)))
-none P rows good e = first-is (λ a. T (not (P a))) rows good e
-
--- ---- rows before the fields
-
-module _ (Q : Answer → Type 0) where
-  pub call-each : (format : ℕ) (c : Call) → Q Unusable → Each Q (callRows format c)
-  unfolding callRows Each
-  call-each format c u = (u, (u, (u, tt)))
-
-  pub store-each : (s : Store) → Q Unusable → Each Q (storeRows s)
-  unfolding storeRows Each
-  store-each s u = (u, tt)
-
-  pub code-each : (e : Entry) → Q notListed → Each Q (codeRows e)
-  unfolding codeRows Each
-  code-each e u = (u, tt)
-
-  pub length-each : (e : Entry) (cdb : List ℕ) → Q Unusable → Each Q (lengthRows e cdb)
-  unfolding lengthRows Each
-  length-each (Listed code) cdb u = (u, tt)
-  length-each Unlisted cdb u = tt
-
-  pub guard-each : (x : Asked) (r : Rights) (n : ℕ) → Q Conflict → Each Q (guardRows x r n)
-  unfolding guardRows Each
-  guard-each nothing r n u = tt
-  guard-each (asks q) r n u = (u, tt)
-
-  -- ---- the fields
-
-  pub check-each : (ks : List Check) (cdb : List ℕ) → ((b : Bits) → Q (invalidField b)) → Each Q (checkRows ks cdb)
-  unfolding checkRows Each
-  check-each [] cdb u = tt
-  check-each (k ∷ ks) cdb u = (u (k .bits), check-each ks cdb u)
-
-  pub field-each : (e : Entry) (cdb : List ℕ) → ((b : Bits) → Q (invalidField b)) → Each Q (fieldRows e cdb)
-  unfolding fieldRows
-  field-each e cdb u = check-each (checksOf e) cdb u
-
--- ---- a command's own tests
-
--- a place within so many bytes, for which sense has room
-unfoldable pub fits : ℕ → ℕ → ℕ → ℕ → Bool
-fits long at top n = leb top 7 && (ltb at 0x1_0000 && leb (8 * at + (7 - top) + n) (8 * long))
-
--- every field of a list that is named stands in its first bytes
-abbrev pub namedBytes : ℕ
-namedBytes = 24
-
-unfoldable pub says : ℕ → Answer → Bool
-says n a = eqb (numberOf a) n
-
--- what a rule must hold of, to hold of all rows of PERSISTENT RESERVE OUT
-pub record AlterAnswers (Q : Answer → Type 0) : Type 0 where
-  pub short : Q Short
-  pub conflict : Q Conflict
-  pub no-length : Q listLength
-  pub no-place : Q noPlace
-  pub other-type : Q otherType
-  pub named : (b : Bits) → T (fits namedBytes (firstByte b) (topBit b) (bitCount b)) → Q (listField b)
-
-module _ (Q : Answer → Type 0) (w : AlterAnswers Q) where
-  flags-each : (o : Parameters) → Each Q (registerFlags o)
-  unfolding registerFlags Each fits firstByte topBit bitCount
-  flags-each o = (w .named (within flagsByte 3 1) tt, (w .named (within flagsByte 2 1) tt, (w .named (within flagsByte 0 1) tt, tt)))
-
-  actions-each : (a : Action) (r : Rights) (n : ℕ) (o : Parameters) → Each Q (decisionRows a r n o)
-  unfolding decisionRows flagRows actionRows Each fits firstByte topBit bitCount
-  actions-each Register r n o = each-append Q (registerFlags o) _ (flags-each o) (w .conflict, (w .no-place, tt))
-  actions-each Reserve r n o = (w .conflict, (w .conflict, tt))
-  actions-each Release r n o = (w .conflict, (w .other-type, tt))
-  actions-each Clear r n o = (w .conflict, tt)
-  actions-each Preempt r n o = (w .conflict, (w .named serviceKeyBits tt, (w .conflict, tt)))
-  actions-each RegisterIgnoring r n o = each-append Q (registerFlags o) _ (flags-each o) (w .conflict, (w .no-place, tt))
-
-  pub alter-each : (a : Action) (q : Request) (r : Rights) (n : ℕ) (dataOut : List ℕ) → Each Q (alterRows a q r n dataOut)
-  unfolding alterRows Each
-  alter-each a q r n dataOut = (w .no-length, (w .short, actions-each a r n (parametersOf q dataOut)))
-
--- and of all rows of a command's own
-pub record OwnAnswers (Q : Answer → Type 0) : Type 0 where
-  pub short : Q Short
-  pub conflict : Q Conflict
-  pub nowhere : (r : Refusal) → T (not (says 2 (Refused r))) → T (not (says 5 (Refused r))) → Q (Refused r)
-  pub named : (b : Bits) → T (fits namedBytes (firstByte b) (topBit b) (bitCount b)) → Q (listField b)
-
-module _ (Q : Answer → Type 0) (w : OwnAnswers Q) where
-  moves-each : (m : Move) (q : Request) (capacity : ℕ) (p : Pool) (c : Call) → Each Q (moveRows m q capacity p c)
-  unfolding moveRows readRows writeRows sameRows unmapRows statusRows Each says numberOf codesOf fits firstByte topBit bitCount
-  moves-each Read q capacity p c = (w .nowhere (OutOfRange _) tt tt, (w .short, tt))
-  moves-each Write q capacity p c = (w .nowhere (OutOfRange _) tt tt, (w .short, (w .nowhere (NoRoom _) tt tt, tt)))
-  moves-each WriteSame q capacity p c = (w .nowhere (OutOfRange _) tt tt, (w .short, (w .nowhere (NoRoom _) tt tt, tt)))
-  moves-each Unmap q capacity p c = (w .nowhere ListLength tt tt, (w .short, (w .named dataLengthBits tt, (w .nowhere (OutOfRange _) tt tt, tt))))
-  moves-each Status q capacity p c = (w .nowhere (OutOfRange _) tt tt, (w .short, tt))
-
-  command-each : (k : Command) (q : Request) (s : Store) (c : Call) → Each Q (commandRows k q s c)
-  unfolding commandRows tellRows Each says numberOf codesOf
-  command-each (Tells t) q s c = (w .short, tt)
-  command-each (Moves m) q s c = moves-each m q (s .unit .capacity) (s .pool) c
-  command-each (Alters a) q s c =
-      alter-each Q
-      (record {
-        short = w .short;
-        conflict = w .conflict;
-        no-length = w .nowhere ListLength tt tt;
-        no-place = w .nowhere NoPlace tt tt;
-        other-type = w .nowhere OtherType tt tt;
-        named = w .named;
-      })
-      a q (s .unit .rights) (c .nexus) (c .dataOut)
-
-  pub own-each : (x : Asked) (s : Store) (c : Call) → Each Q (ownRows x s c)
-  unfolding ownRows Each
-  own-each nothing s c = tt
-  own-each (asks q) s c = command-each (q .command) q s c
-
--- none of them is GOOD, and none is 2
-pub own-refusing : (x : Asked) (s : Store) (c : Call) → T (refusing (ownRows x s c))
-unfolding refuses
-own-refusing x s c =
-    each-refusing _ (own-each (λ a. T (refuses a)) (record { short = tt; conflict = tt; nowhere = λ r t u. tt; named = λ b t. tt }) x s c)
+-- ---- a command's own tests never answer 2
 
 own-not-two : (x : Asked) (s : Store) (c : Call) → T (not (says 2 (first (ownRows x s c))))
 unfolding says numberOf codesOf
-own-not-two x s c = none (says 2) _ tt (own-each _ (record { short = tt; conflict = tt; nowhere = λ r t u. t; named = λ b t. tt }) x s c)
+own-not-two x s c = none (says 2) _ tt (own-each _ (record { short = tt; conflict = tt; nowhere = λ r t u v. t; named = λ b t. tt }) x s c)
 
 -- ---- one number, and which stage answers it
 
@@ -199,17 +33,27 @@ later s c = next (guardAnswer (s .unit) c) (ownAnswer s c)
 
 -- and from the code on
 abbrev staged : Store → Call → Answer
-staged s c = next (codeAnswer c) (next (lengthAnswer c) (next (fieldAnswer c) (later s c)))
+staged s c = next (codeAnswer c) (next (lengthAnswer c) (next (attentionAnswer (s .unit) c) (next (fieldAnswer c) (later s c))))
 
--- the call comes as far as its fields
-pub record AtFields (s : Store) (c : Call) : Type 0 where
+-- the call comes as far as what waits for its sender
+pub record AtAttention (s : Store) (c : Call) : Type 0 where
   pub call : callAnswer (s .format) c ≡ Good
   pub store : T (usable s)
   pub code : codeAnswer c ≡ Good
   pub length : lengthAnswer c ≡ Good
 
+pub attention-decides : (s : Store) (c : Call) → AtAttention s c → answerTo s c ≡ next (attentionAnswer (s .unit) c) (next (fieldAnswer c) (later s c))
+attention-decides s c f = from-attention s c (f .call) (f .store) (f .code) (f .length)
+
+-- and as far as its fields
+pub record AtFields (s : Store) (c : Call) : Type 0 where
+  pub reached : AtAttention s c
+  pub attention : attentionAnswer (s .unit) c ≡ Good
+
 pub fields-decide : (s : Store) (c : Call) → AtFields s c → answerTo s c ≡ next (fieldAnswer c) (later s c)
-fields-decide s c f = from-fields s c (f .call) (f .store) (f .code) (f .length)
+fields-decide s c f =
+    let p = f .reached in
+    from-fields s c (p .call) (p .store) (p .code) (p .length) (f .attention)
 
 module _ (P : Answer → Bool) where
   -- a stage that has none of them was passed
@@ -235,18 +79,48 @@ module _ (P : Answer → Bool) where
     pub at-store : T (usable s)
     at-store = passes-usable s (past-store .0)
 
-    pub at-fields : T (not (P notListed)) → AtFields s c
-    at-fields unlisted =
-        let coded = past (codeAnswer c) _ (none P _ good (code-each _ (entryOf (c .cdb)) unlisted)) (past-store .1) in
-        let long = past (lengthAnswer c) _ (none P _ good (length-each _ (entryOf (c .cdb)) (c .cdb) unusable)) (coded .1) in
-        record { call = at-call; store = at-store; code = coded .0; length = long .0 }
+    module _ (unlisted : T (not (P notListed))) where
+      past-code : (codeAnswer c ≡ Good) × T (P (next (lengthAnswer c) (next (attentionAnswer (s .unit) c) (next (fieldAnswer c) (later s c)))))
+      past-code = past (codeAnswer c) _ (none P _ good (code-each _ (entryOf (c .cdb)) unlisted)) (past-store .1)
+
+      past-length : (lengthAnswer c ≡ Good) × T (P (next (attentionAnswer (s .unit) c) (next (fieldAnswer c) (later s c))))
+      past-length = past (lengthAnswer c) _ (none P _ good (length-each _ (entryOf (c .cdb)) (c .cdb) unusable)) (past-code .1)
+
+      pub at-attention : AtAttention s c
+      at-attention = record { call = at-call; store = at-store; code = past-code .0; length = past-length .0 }
+
+      pub at-fields : ((x : ℕ) → T (not (P (Refused (refusalOf x))))) → AtFields s c
+      at-fields untold = record {
+        reached = at-attention;
+        attention = past (attentionAnswer (s .unit) c) _ (none P _ good (attention-each _ (s .unit) (c .nexus) (c .cdb) untold)) (past-length .1) .0;
+      }
+
+-- what waits is returned by 13, and by no other number
+pub untold : (n : ℕ) → T (not (says n (Refused RegistrationsPreempted))) → T (not (says n (Refused ReservationsPreempted)))
+    → T (not (says n (Refused ReservationsReleased))) → (x : ℕ) → T (not (says n (Refused (refusalOf x))))
+unfolding refusalOf
+untold n p q r x = go (eqb x 1) (eqb x 2)
+  where
+    go : (b d : Bool) → T (not (says n (Refused (cond b RegistrationsPreempted (cond d ReservationsPreempted ReservationsReleased)))))
+    go true d = p
+    go false true = q
+    go false false = r
+
+pub told-number : (x : ℕ) → numberOf (Refused (refusalOf x)) ≡ 13
+unfolding refusalOf numberOf codesOf
+told-number x = go (eqb x 1) (eqb x 2)
+  where
+    go : (b d : Bool) → numberOf (Refused (cond b RegistrationsPreempted (cond d ReservationsPreempted ReservationsReleased))) ≡ 13
+    go true d = refl
+    go false true = refl
+    go false false = refl
 
 -- ---- 2
 
 module _ (s : Store) (c : Call) (h : T (says 2 (answerTo s c))) where
   pub two-reaches : AtFields s c
   unfolding says numberOf codesOf
-  two-reaches = at-fields (says 2) tt tt s c h tt
+  two-reaches = at-fields (says 2) tt tt s c h tt (untold 2 tt tt tt)
 
   later-not-two : T (not (says 2 (later s c)))
   unfolding says numberOf
@@ -269,10 +143,11 @@ pub record OwnNumber (n : ℕ) : Type 0 where
   pub unlisted : T (not (says n notListed))
   pub field : (b : Bits) → T (not (says n (invalidField b)))
   pub conflict : T (not (says n Conflict))
+  pub told : (x : ℕ) → T (not (says n (Refused (refusalOf x))))
 
 module _ (n : ℕ) (w : OwnNumber n) (s : Store) (c : Call) (h : T (says n (answerTo s c))) where
   own-reaches : AtFields s c
-  own-reaches = at-fields (says n) (w .good) (w .unusable) s c h (w .unlisted)
+  own-reaches = at-fields (says n) (w .good) (w .unusable) s c h (w .unlisted) (w .told)
 
   past-fields : (fieldAnswer c ≡ Good) × T (says n (later s c))
   past-fields =
@@ -297,15 +172,56 @@ module _ (n : ℕ) (w : OwnNumber n) (s : Store) (c : Call) (h : T (says n (answ
 
 pub three-own : OwnNumber 3
 unfolding says numberOf codesOf
-three-own = record { good = tt; unusable = tt; unlisted = tt; field = λ b. tt; conflict = tt }
+three-own = record { good = tt; unusable = tt; unlisted = tt; field = λ b. tt; conflict = tt; told = untold 3 tt tt tt }
 
 pub five-own : OwnNumber 5
 unfolding says numberOf codesOf
-five-own = record { good = tt; unusable = tt; unlisted = tt; field = λ b. tt; conflict = tt }
+five-own = record { good = tt; unusable = tt; unlisted = tt; field = λ b. tt; conflict = tt; told = untold 5 tt tt tt }
 
 pub eight-own : OwnNumber 8
 unfolding says numberOf codesOf
-eight-own = record { good = tt; unusable = tt; unlisted = tt; field = λ b. tt; conflict = tt }
+eight-own = record { good = tt; unusable = tt; unlisted = tt; field = λ b. tt; conflict = tt; told = untold 8 tt tt tt }
 
 pub five-is : (s : Store) (c : Call) → T (says 5 (answerTo s c)) → answerTo s c ≡ ownAnswer s c
 five-is = own-is 5 five-own
+
+-- ---- 13
+
+module _ (s : Store) (c : Call) (h : T (says 13 (answerTo s c))) where
+  pub thirteen-reaches : AtAttention s c
+  unfolding says numberOf codesOf
+  thirteen-reaches = at-attention (says 13) tt tt s c h tt
+
+  behind-not : T (not (says 13 (next (fieldAnswer c) (later s c))))
+  unfolding says numberOf codesOf
+  behind-not =
+      next-is (λ a. T (not (says 13 a))) (fieldAnswer c) (later s c)
+      (none (says 13) _ tt (field-each _ (entryOf (c .cdb)) (c .cdb) (λ b. tt)))
+      (next-is (λ a. T (not (says 13 a))) (guardAnswer (s .unit) c) (ownAnswer s c)
+      (none (says 13) _ tt (guard-each _ (askedOf (c .cdb)) (s .unit .rights) (c .nexus) tt))
+      (none (says 13) _ tt (own-each _ (record { short = tt; conflict = tt; nowhere = λ r t u v. v; named = λ b t. tt }) (askedOf (c .cdb)) s c)))
+
+  thirteen-from : answerTo s c ≡ attentionAnswer (s .unit) c
+  thirteen-from =
+      attention-decides s c thirteen-reaches
+      ∙ behind (says 13) (attentionAnswer (s .unit) c) _ behind-not (rw (attention-decides s c thirteen-reaches) at h)
+
+  -- something waits, and is due
+  pub thirteen-due : T (due (s .unit) (c .nexus) (c .cdb))
+  unfolding says numberOf
+  thirteen-due =
+      test (due (s .unit) (c .nexus) (c .cdb)) (λ t. t)
+      (λ n. absurd (subst (λ (a : Answer). T (says 13 a)) (thirteen-from ∙ undue-passes (s .unit) (c .nexus) (c .cdb) n) h))
+
+  -- and that is what is answered
+  pub thirteen-is : answerTo s c ≡ Refused (refusalOf (waiting (s .unit) (c .nexus)))
+  thirteen-is = thirteen-from ∙ due-stops (s .unit) (c .nexus) (c .cdb) thirteen-due
+
+-- where a call comes so far, what is due is answered
+pub due-answers : (s : Store) (c : Call) → AtAttention s c → T (due (s .unit) (c .nexus) (c .cdb))
+    → answerTo s c ≡ Refused (refusalOf (waiting (s .unit) (c .nexus)))
+unfolding refuses
+due-answers s c p t =
+    attention-decides s c p
+    ∙ ap (λ (a : Answer). next a (next (fieldAnswer c) (later s c))) (due-stops (s .unit) (c .nexus) (c .cdb) t)
+    ∙ next-refuses (Refused (refusalOf (waiting (s .unit) (c .nexus)))) _ tt

@@ -1,27 +1,29 @@
 -- Demand 1, proved of `step`: every answer is listed, a refusal changes nothing, and buffers change only where they may.
 -- Assumes nothing.
-use mathlib.Core.Path.{_≡_, refl, _∙_}
+use mathlib.Core.Path.{_≡_, refl, ap, _∙_}
 use mathlib.Core.Logic.{_≢_}
+use mathlib.Core.Bool.{Bool, cond}
 use mathlib.Core.List.{List, [], _∷_}
 use Prim.Native.Nat.{ℕ}
 use native.Mathlib.Omega.{arith}
-use lib.Dec.{T}
+use lib.Dec.{T, eqb, eqb→eq}
 use lib.ListN.{length, drop}
 use Rattle.fields.specs.Bytes.{put}
 use Rattle.fields.proofs.BytesLaws.{length-put, drop-put}
+use Rattle.fields.proofs.Tests.{T-true}
 use Rattle.answers.specs.declared.Refusal.{Refusal}
-use Rattle.answers.specs.declared.Refusal.the-variants.{NotListed, InvalidField, OutOfRange, ListLength, ListField, NoPlace, OtherType, NoRoom}
+use Rattle.answers.specs.declared.Refusal.the-variants.{NotListed, InvalidField, OutOfRange, ListLength, ListField, NoPlace, OtherType, NoRoom, RegistrationsPreempted, ReservationsPreempted, ReservationsReleased}
 use Rattle.answers.specs.declared.Answer.{Answer}
 use Rattle.answers.specs.declared.Answer.the-variants.{Good, Refused, Conflict, Unusable, Short}
-use Rattle.answers.specs.Answers.{codesOf, numberOf}
+use Rattle.answers.specs.Answers.{codesOf, numberOf, isAttention}
 use Rattle.answers.specs.Sense.{senseData, senseWritten, senseAfter}
 use Rattle.answers.specs.Order.{ifGood, ifGoodBy, refuses}
 use Rattle.answers.proofs.OrderLaws.{if-refused, good-cases}
 use Rattle.rights.specs.Rights.{isOneOf}
 use Rattle.forms.specs.Forms.{askedOf}
-use Rattle.store.specs.Store.{Store, Call, seenOf}
+use Rattle.store.specs.Store.{Store, Call, withUnit, relieved, refusedUnit, seenOf}
 use Rattle.store.specs.Step.{dataBy, stepBy, step, answerTo}
-use Rattle.store.proofs.StoreLaws.{step-answer, step-store, leaves-refused}
+use Rattle.store.proofs.StoreLaws.{step-answer, refusedStore, step-store, step-ways, leaves-refused}
 use Rattle.demands.specs.History.{after}
 use Rattle.demands.specs.Demands.{Demand1}
 use Rattle.demands.proofs.Usable.{usable-stays, owners-stay, medium-stays}
@@ -29,7 +31,7 @@ use Rattle.demands.proofs.Usable.{usable-stays, owners-stay, medium-sta
 -- ---- every answer is listed
 
 abbrev numbers : List ℕ
-numbers = 0 ∷ 1 ∷ 2 ∷ 3 ∷ 4 ∷ 5 ∷ 6 ∷ 7 ∷ 8 ∷ 10 ∷ 11 ∷ 12 ∷ []
+numbers = 0 ∷ 1 ∷ 2 ∷ 3 ∷ 4 ∷ 5 ∷ 6 ∷ 7 ∷ 8 ∷ 10 ∷ 11 ∷ 12 ∷ 13 ∷ []
 
 refusal-listed : (r : Refusal) → T (isOneOf (codesOf r .number) numbers)
 unfolding codesOf isOneOf
@@ -41,6 +43,9 @@ refusal-listed (ListField at top n) = tt
 refusal-listed NoPlace = tt
 refusal-listed OtherType = tt
 refusal-listed (NoRoom address) = tt
+refusal-listed RegistrationsPreempted = tt
+refusal-listed ReservationsPreempted = tt
+refusal-listed ReservationsReleased = tt
 
 answer-listed : (a : Answer) → T (isOneOf (numberOf a) numbers)
 unfolding numberOf isOneOf
@@ -53,15 +58,42 @@ answer-listed Short = tt
 pub step-listed : (s : Store) (c : Call) → T (isOneOf (numberOf (step s c .seen .answer)) numbers)
 step-listed s c = answer-listed (step s c .seen .answer)
 
+-- ---- what is told of what waited
+
+attention-number : (s : Store) (c : Call) → T (isAttention (answerTo s c)) → T (eqb (numberOf (step s c .seen .answer)) 13)
+unfolding isAttention
+attention-number s c t = rw (step-answer s c) t
+
+number-attention : (s : Store) (c : Call) → numberOf (step s c .seen .answer) ≡ 13 → T (isAttention (answerTo s c))
+unfolding isAttention
+number-attention s c e = rw (← step-answer s c, e) tt
+
+thirteen-refuses : (a : Answer) → T (isAttention a) → T (refuses a)
+unfolding isAttention numberOf refuses
+thirteen-refuses Good t = t
+thirteen-refuses (Refused x) t = tt
+thirteen-refuses Conflict t = tt
+thirteen-refuses Unusable t = tt
+thirteen-refuses Short t = tt
+
+pub told-store : (s : Store) (c : Call) → numberOf (step s c .seen .answer) ≡ 13 → after step s c ≡ withUnit s (relieved (s .unit) (c .nexus))
+unfolding after refusedUnit
+told-store s c e =
+    let t = number-attention s c e in
+    step-store s c ∙ leaves-refused (answerTo s c) _ (refusedStore s c) (thirteen-refuses (answerTo s c) t)
+    ∙ ap (λ (b : Bool). withUnit s (cond b (relieved (s .unit) (c .nexus)) (s .unit))) (T-true _ t)
+
 -- ---- a refusal
 
 module _ (s : Store) (c : Call) (d : step s c .seen .answer ≢ Good) where
   refused : T (refuses (answerTo s c))
   refused = good-cases (answerTo s c) (λ e. absurd (d (step-answer s c ∙ e))) (λ t. t)
 
-  pub refused-store : after step s c ≡ s
+  pub refused-store : numberOf (step s c .seen .answer) ≢ 13 → after step s c ≡ s
   unfolding after
-  refused-store = step-store s c ∙ leaves-refused (answerTo s c) _ s refused
+  refused-store n =
+      step-ways (λ x. x ≡ s) s c (λ g. absurd (d (step-answer s c ∙ g))) refl
+      (λ t. absurd (n (eqb→eq _ 13 (attention-number s c t))))
 
   pub refused-data : step s c .seen .dataIn ≡ c .dataIn
   unfolding step stepBy seenOf answerTo
@@ -130,7 +162,8 @@ pub demand-1 : Demand1 step
 demand-1 = record {
   listed = step-listed;
   keeps = usable-stays;
-  refusal-store = refused-store;
+  refusal-store = λ s c d n. refused-store s c d n;
+  attention-store = told-store;
   refusal-data = refused-data;
   refusal-none = refused-none;
   sense-table = sense-table;

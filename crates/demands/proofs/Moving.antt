@@ -1,11 +1,14 @@
 -- A call on the blocks: what its GOOD says of the store before it, what is seen of it, and what it leaves.
 -- Assumes nothing.
 use mathlib.Core.Path.{_≡_, refl, sym, ap, ap₂, _∙_, subst}
+use mathlib.Core.Logic.{_≢_}
 use mathlib.Core.List.{List, [], _∷_}
 use Prim.Native.Nat.{ℕ, _≤_}
 use lib.Dec.{T}
 use Rattle.answers.specs.declared.Answer.{Answer}
 use Rattle.answers.specs.declared.Answer.the-variants.{Good, Conflict}
+use Rattle.fields.proofs.Tests.{by-equal}
+use Rattle.answers.specs.Answers.{numberOf}
 use Rattle.answers.specs.Order.{_if_, first, refuses}
 use Rattle.answers.proofs.OrderLaws.{good-cases, not-good}
 use Rattle.answers.specs.Sense.{senseAfter}
@@ -15,15 +18,15 @@ use Rattle.forms.specs.declared.Move.the-variants.{Read, Write, WriteSame, Unma
 use Rattle.forms.specs.declared.Command.the-variants.{Moves}
 use Rattle.forms.specs.Forms.{askedOf, countIn}
 use Rattle.forms.proofs.Fields.{isCounted, asked-fits}
-use Rattle.store.specs.Store.{Store, Call, withPool, usable, seenOf}
+use Rattle.store.specs.Store.{Store, Call, withUnit, withPool, usable, relieved, seenOf}
 use Rattle.store.specs.Conflict.{conflict}
 use Rattle.store.specs.Move.{moveRows, moved, fetched}
 use Rattle.store.specs.Step.{guardRows, commandRows, ownRows, commandData, dataBy, commandStore, storeBy, step, answerTo}
 use Rattle.store.proofs.Parts.{good-cleared, good-own}
-use Rattle.store.proofs.StoreLaws.{step-answer, step-seen, step-store, leaves-good}
+use Rattle.store.proofs.StoreLaws.{step-answer, step-seen, refusedStore, step-store, leaves-good}
 use Rattle.demands.specs.History.{after}
 use Rattle.demands.specs.Contents.{Asks, IsGood, isTransfer}
-use Rattle.demands.proofs.Demand1.{refused-store}
+use Rattle.demands.proofs.Demand1.{told-store, refused-store}
 
 -- only a usable store answers GOOD
 pub good-usable : (s : Store) (c : Call) → IsGood s c → T (usable s)
@@ -34,15 +37,23 @@ good-usable s c e = good-cleared s c (sym (step-answer s c) ∙ e) .store
 -- done
 pub done-after : (s : Store) (c : Call) → IsGood s c → after step s c ≡ storeBy (askedOf (c .cdb)) s c
 unfolding after
-done-after s c e = step-store s c ∙ leaves-good (answerTo s c) _ s (sym (step-answer s c) ∙ e)
+done-after s c e = step-store s c ∙ leaves-good (answerTo s c) _ (refusedStore s c) (sym (step-answer s c) ∙ e)
 
--- refused
-pub refused-after : (s : Store) (c : Call) → T (refuses (step s c .seen .answer)) → after step s c ≡ s
+-- refused, but not to tell what waited
+pub refused-after : (s : Store) (c : Call) → T (refuses (step s c .seen .answer)) → numberOf (step s c .seen .answer) ≢ 13 → after step s c ≡ s
 refused-after s c t = refused-store s c (not-good (step s c .seen .answer) t)
 
--- one or the other
-pub after-ways : (s : Store) (c : Call) (P : Store → Type 0) → (IsGood s c → P (after step s c)) → P s → P (after step s c)
-after-ways s c P done kept = good-cases (step s c .seen .answer) done (λ t. subst P (sym (refused-after s c t)) kept)
+-- the store once the caller was told what waited for it
+abbrev pub toldStore : Store → Call → Store
+toldStore s c = withUnit s (relieved (s .unit) (c .nexus))
+
+-- one of the three
+pub after-ways : (s : Store) (c : Call) (P : Store → Type 0) → (IsGood s c → P (after step s c)) → P s
+    → (numberOf (step s c .seen .answer) ≡ 13 → P (toldStore s c)) → P (after step s c)
+after-ways s c P done kept told =
+    good-cases (step s c .seen .answer) done
+    (λ t. by-equal (numberOf (step s c .seen .answer)) 13 (λ _. P (after step s c))
+    (λ e. subst P (sym (told-store s c e)) (told e)) (λ n. subst P (sym (refused-after s c t n)) kept))
 
 -- ---- what a call on the blocks asks for
 
@@ -87,9 +98,10 @@ module _ (m : Move) (s : Store) (c : Call) (a : Asks m c) (e : IsGood s c) where
   pub good-rows : first (moveRows m (a .request) (s .unit .capacity) (s .pool) c) ≡ Good
   good-rows = ap first (sym (asks-rows m c a s)) ∙ good-own s c (sym (step-answer s c) ∙ e)
 
--- the unit's record is left by every call on the blocks
-pub moves-unit : (m : Move) (s : Store) (c : Call) → Asks m c → after step s c .unit ≡ s .unit
-moves-unit m s c a = after-ways s c (λ t. t .unit ≡ s .unit) (λ e. ap (λ (t : Store). t .unit) (good-after m s c a e)) refl
+-- the unit's record is left by every call on the blocks, unless that told what waited
+pub moves-unit : (m : Move) (s : Store) (c : Call) → Asks m c → numberOf (step s c .seen .answer) ≢ 13 → after step s c .unit ≡ s .unit
+moves-unit m s c a n =
+    after-ways s c (λ t. t .unit ≡ s .unit) (λ e. ap (λ (t : Store). t .unit) (good-after m s c a e)) refl (λ e. absurd (n e))
 
 counted-command : (m : Move) → T (isTransfer m) → T (isCounted (Moves m))
 unfolding isTransfer isCounted

@@ -40,7 +40,7 @@ use Rattle.store.specs.Alter.{alterRows}
 use Rattle.store.specs.Step.{commandRows, ownRows, answerTo}
 use Rattle.store.proofs.Parts.{callAnswer, storeAnswer, codeAnswer, lengthAnswer, fieldAnswer, guardAnswer, parts}
 use Rattle.demands.specs.Pointed.{Place, unplaced, placed, placeOf, placeIn}
-use Rattle.demands.proofs.Answering.{Each, first-is, next-is, none, call-each, store-each, code-each, length-each, guard-each, field-each, own-each, fits, namedBytes, says}
+use Rattle.store.proofs.Rows.{Each, first-is, next-is, none, call-each, store-each, code-each, length-each, attention-each, guard-each, field-each, own-each, fits, namedBytes, says}
 
 -- ---- places
 

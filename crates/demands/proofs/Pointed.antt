@@ -40,7 +40,8 @@ use Rattle.demands.proofs.SenseRead.{markOf, atOf, mark-read, place-rea
 use Rattle.demands.proofs.SenseTold.{answer-is, format-is, sense-is}
 use Rattle.demands.proofs.Fielded.{later, heard-call}
 use Rattle.demands.proofs.Places.{places-true}
-use Rattle.demands.proofs.Answering.{first-is, field-each, own-refusing, AtFields, fields-decide, fits, namedBytes, says, two-reaches, two-is, five-is}
+use Rattle.store.proofs.Rows.{first-is, field-each, own-refusing, fits, namedBytes, says}
+use Rattle.demands.proofs.Answering.{AtFields, fields-decide, two-reaches, two-is, five-is}
 use Rattle.demands.proofs.Named.{placeFits, field-fits, field-named, own-named, own-fits, nowhere-else, own-long}
 
 -- ---- what a host reads

@@ -48,7 +48,8 @@ use Rattle.demands.specs.SenseRead.{senseLong, Information, absent, pres
 use Rattle.demands.specs.Sensed.{ReadsAs, addressOf, allInside, FirstFails, withSense, Sensed}
 use Rattle.demands.proofs.Usable.{format-after}
 use Rattle.demands.proofs.Fresh.{unusable-eleven}
-use Rattle.demands.proofs.Answering.{Each, first-is, none, AlterAnswers, alter-each, says, OwnNumber, own-is, own-says, three-own, eight-own}
+use Rattle.store.proofs.Rows.{Each, first-is, none, AlterAnswers, alter-each, says}
+use Rattle.demands.proofs.Answering.{OwnNumber, own-is, own-says, three-own, eight-own}
 use Rattle.demands.proofs.Named.{row-past, row-held, never}
 use Rattle.demands.proofs.Pointed.{says-seen}
 use Rattle.demands.proofs.SenseRead.{data-reads, fitting, wrapping, Exactly, fixed-told, exactly-told, described-told}

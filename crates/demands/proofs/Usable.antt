@@ -20,6 +20,8 @@ use Rattle.rights.specs.declared.Action.{Action}
 use Rattle.rights.specs.declared.Rights.{Rights}
 use Rattle.rights.specs.Rights.{isType, rightsOk}
 use Rattle.rights.specs.Actions.{acted}
+use Rattle.rights.specs.Attentions.{attentionsOk}
+use Rattle.rights.proofs.AttentionLaws.{returned-ok, notified-ok}
 use Rattle.rights.proofs.Keeping.{makes, acted-keeps}
 use Rattle.forms.specs.declared.Move.{Move}
 use Rattle.forms.specs.declared.Move.the-variants.{Read, Write, WriteSame, Unmap, Status}
@@ -29,7 +31,7 @@ use Rattle.forms.specs.declared.Request.{Request}
 use Rattle.forms.specs.Forms.{Asked, nothing, asks, askedOf, countIn}
 use Rattle.forms.proofs.Fields.{isMaker, asked-typed}
 use Rattle.store.specs.declared.Unit.{Unit}
-use Rattle.store.specs.Store.{Store, Call, unitOk, usable}
+use Rattle.store.specs.Store.{Store, Call, withUnit, unitOk, usable, relieved, enacted}
 use Rattle.store.specs.Move.{moveRows, moved}
 use Rattle.store.specs.Alter.{parametersOf, alterRows}
 use Rattle.store.specs.Step.{commandRows, ownRows, commandStore, storeBy, step, answerTo}
@@ -61,15 +63,31 @@ usable-of s f x y = both (formatOk (s .format)) _ f (both (unitOk (s .unit)) (po
 
 pub unit-capacity : (u : Unit) → T (unitOk u) → T (capacityOk (u .capacity))
 unfolding unitOk
-unit-capacity u t = and-l (capacityOk (u .capacity)) (rightsOk (u .rights)) t
+unit-capacity u t = and-l (capacityOk (u .capacity)) (rightsOk (u .rights) && attentionsOk (u .attentions)) t
 
 pub unit-rights : (u : Unit) → T (unitOk u) → T (rightsOk (u .rights))
 unfolding unitOk
-unit-rights u t = and-r (capacityOk (u .capacity)) (rightsOk (u .rights)) t
+unit-rights u t =
+    and-l (rightsOk (u .rights)) (attentionsOk (u .attentions)) (and-r (capacityOk (u .capacity)) (rightsOk (u .rights) && attentionsOk (u .attentions)) t)
 
-pub unit-of : (u : Unit) → T (capacityOk (u .capacity)) → T (rightsOk (u .rights)) → T (unitOk u)
+pub unit-attentions : (u : Unit) → T (unitOk u) → T (attentionsOk (u .attentions))
 unfolding unitOk
-unit-of u x y = both (capacityOk (u .capacity)) (rightsOk (u .rights)) x y
+unit-attentions u t =
+    and-r (rightsOk (u .rights)) (attentionsOk (u .attentions)) (and-r (capacityOk (u .capacity)) (rightsOk (u .rights) && attentionsOk (u .attentions)) t)
+
+pub unit-of : (u : Unit) → T (capacityOk (u .capacity)) → T (rightsOk (u .rights)) → T (attentionsOk (u .attentions)) → T (unitOk u)
+unfolding unitOk
+unit-of u x y z =
+    both (capacityOk (u .capacity)) (rightsOk (u .rights) && attentionsOk (u .attentions)) x (both (rightsOk (u .rights)) (attentionsOk (u .attentions)) y z)
+
+-- what waits for a nexus, once it was returned
+pub relieved-usable : (s : Store) (n : ℕ) → T (usable s) → T (usable (withUnit s (relieved (s .unit) n)))
+unfolding relieved
+relieved-usable s n u =
+    let v = usable-unit s u in
+    usable-of _ (usable-format s u)
+    (unit-of _ (unit-capacity (s .unit) v) (unit-rights (s .unit) v) (returned-ok n (s .unit .attentions) (unit-attentions (s .unit) v)))
+    (usable-pool s u)
 
 -- ---- commands that move
 
@@ -132,13 +150,14 @@ altered-ok a q r n dataOut t small k e =
 
 command-usable : (k : Command) (q : Request) (s : Store) (c : Call) → T (usable s) → c .nexus ≤ 15 → (T (isMaker k) → T (isType (q .kind)))
     → first (commandRows k q s c) ≡ Good → T (usable (commandStore k q s c))
-unfolding commandRows commandStore isMaker
+unfolding commandRows commandStore isMaker enacted
 command-usable (Tells t) q s c u n k e = u
 command-usable (Moves m) q s c u n k e =
     usable-of _ (usable-format s u) (usable-unit s u) (moved-ok m q (s .unit .capacity) (s .pool) c (usable-pool s u) e)
 command-usable (Alters a) q s c u n k e =
     usable-of _ (usable-format s u)
-    (unit-of _ (unit-capacity (s .unit) (usable-unit s u)) (altered-ok a q (s .unit .rights) (c .nexus) (c .dataOut) (unit-rights (s .unit) (usable-unit s u)) n k e))
+    (unit-of _ (unit-capacity (s .unit) (usable-unit s u)) (altered-ok a q (s .unit .rights) (c .nexus) (c .dataOut) (unit-rights (s .unit) (usable-unit s u)) n k e)
+    (notified-ok a (s .unit .rights) _ (c .nexus) (s .unit .attentions) (unit-attentions (s .unit) (usable-unit s u))))
     (usable-pool s u)
 
 done-usable : (s : Store) (c : Call) → answerTo s c ≡ Good → T (usable (storeBy (askedOf (c .cdb)) s c))
@@ -155,7 +174,7 @@ done-usable s c e = go (askedOf (c .cdb)) refl (good-own s c e)
 -- a usable store stays usable
 pub usable-stays : (s : Store) (c : Call) → T (usable s) → T (usable (after step s c))
 unfolding after
-usable-stays s c u = step-ways (λ x. T (usable x)) s c (done-usable s c) u
+usable-stays s c u = step-ways (λ x. T (usable x)) s c (done-usable s c) u (λ _. relieved-usable s (c .nexus) u)
 
 -- and keeps its format
 pub format-after : (s : Store) (c : Call) → after step s c .format ≡ s .format
@@ -179,7 +198,7 @@ module _ (size : Pool → ℕ) (moves : (m : Move) (q : Request) (p : Pool) (c :
 
   size-stays : (s : Store) (c : Call) → size (after step s c .pool) ≡ size (s .pool)
   unfolding after
-  size-stays s c = step-ways (λ x. size (x .pool) ≡ size (s .pool)) s c (λ g. done-size (askedOf (c .cdb)) s c) refl
+  size-stays s c = step-ways (λ x. size (x .pool) ≡ size (s .pool)) s c (λ g. done-size (askedOf (c .cdb)) s c) refl (λ _. refl)
 
 pub owners-stay : (s : Store) (c : Call) → length (after step s c .pool .owners) ≡ length (s .pool .owners)
 owners-stay = size-stays (λ p. length (p .owners)) moved-owners

@@ -2,7 +2,7 @@
 -- the last call left them. `executed` and `freshened` are what the two functions promise; proofs/AtC proves the records.
 -- Assumes nothing.
 use mathlib.Core.Path.{_≡_}
-use mathlib.Core.Logic.{_≢_}
+use mathlib.Core.Logic.{_≢_, _⊎_}
 use mathlib.Core.Bool.{not}
 use mathlib.Core.List.{List, [], _∷_, map}
 use Prim.Native.Nat.{ℕ}
@@ -13,11 +13,11 @@ use Rattle.answers.specs.Sense.{formatOk}
 use Rattle.pool.specs.Valid.{capacityOk, slotsOk}
 use Rattle.rights.specs.Rights.{isOneOf}
 use Rattle.store.specs.declared.Unit.{Unit}
-use Rattle.store.specs.Store.{Store, Call, Seen, usable}
+use Rattle.store.specs.Store.{Store, Call, Seen, withUnit, usable, relieved}
 use Rattle.store.specs.Fresh.{freshStore}
 use Rattle.store.specs.Step.{step}
 use Rattle.ridge.specs.Interface.{Left, executed, FreshLeft, freshened}
-use Rattle.demands.specs.History.{Event, call, Machine, machine, isOut, isShutOut, afterAll, seenAll}
+use Rattle.demands.specs.History.{Event, call, Machine, machine, isOut, isShutOut, isSomebody, isWaitedFor, afterAll, seenAll}
 use Rattle.demands.specs.Contents.{plain}
 use Rattle.demands.specs.SenseRead.{senseLong}
 use Rattle.demands.specs.Demands.{Secrecy}
@@ -81,9 +81,9 @@ pub record Faithful : Type 0 where
 
 -- ---- demand 1
 
--- all that a refusal must leave is left, and nothing returns
-pub record Kept (s : Store) (c : Call) (x : Left) : Type 0 where
-  pub unit : x .unit ≡ s .unit
+-- all that a refusal must leave is left, with this record, and nothing returns
+pub record Kept (u : Unit) (s : Store) (c : Call) (x : Left) : Type 0 where
+  pub unit : x .unit ≡ u
   pub owners : x .owners ≡ s .pool .owners
   pub medium : x .medium ≡ s .pool .medium
   pub dataIn : x .dataIn ≡ c .dataIn
@@ -91,14 +91,15 @@ pub record Kept (s : Store) (c : Call) (x : Left) : Type 0 where
 
 pub record Demand1AtC : Type 0 where
   -- "Number 9 is not used"
-  pub listed : (s : Store) (c : Call) → T (isOneOf (executed s c .answer) (0 ∷ 1 ∷ 2 ∷ 3 ∷ 4 ∷ 5 ∷ 6 ∷ 7 ∷ 8 ∷ 10 ∷ 11 ∷ 12 ∷ []))
-  -- an answer other than 0 leaves the record, the owners, the medium and data-in as they were
-  pub refusal-keeps : (s : Store) (c : Call) → executed s c .answer ≢ 0 → Kept s c (executed s c)
+  pub listed : (s : Store) (c : Call) → T (isOneOf (executed s c .answer) (0 ∷ 1 ∷ 2 ∷ 3 ∷ 4 ∷ 5 ∷ 6 ∷ 7 ∷ 8 ∷ 10 ∷ 11 ∷ 12 ∷ 13 ∷ []))
+  -- an answer other than 0 leaves the record, the owners, the medium and data-in as they were, but that 13 takes away what waited for the caller
+  pub refusal-keeps : (s : Store) (c : Call) → executed s c .answer ≢ 0 → executed s c .answer ≢ 13 → Kept (s .unit) s c (executed s c)
+  pub attention-keeps : (s : Store) (c : Call) → executed s c .answer ≡ 13 → Kept (relieved (s .unit) (c .nexus)) s c (executed s c)
   -- a store that can be used can be used for ever
   pub usable-ever : (s : Store) (es : List Event) → T (usable s) → T (usable (afterAll program s es))
   -- "Otherwise sense is untouched", as it is always past what the format writes, which in both formats byte 7 tells
   pub sense-kept : (s : Store) (c : Call) → T (isOneOf (executed s c .answer) (0 ∷ 10 ∷ 11 ∷ 12 ∷ [])) → executed s c .sense ≡ c .sense
-  pub sense-past : (s : Store) (c : Call) → T (isOneOf (executed s c .answer) (1 ∷ 2 ∷ 3 ∷ 4 ∷ 5 ∷ 6 ∷ 7 ∷ 8 ∷ []))
+  pub sense-past : (s : Store) (c : Call) → T (isOneOf (executed s c .answer) (1 ∷ 2 ∷ 3 ∷ 4 ∷ 5 ∷ 6 ∷ 7 ∷ 8 ∷ 13 ∷ []))
       → drop (senseLong (executed s c .sense)) (executed s c .sense) ≡ drop (senseLong (executed s c .sense)) (c .sense)
   -- "Data-in is written only on 0, and only its first returned bytes."
   pub data-past : (s : Store) (c : Call) → drop (executed s c .returned) (executed s c .dataIn) ≡ drop (executed s c .returned) (c .dataIn)
@@ -113,7 +114,10 @@ pub record Demand1AtC : Type 0 where
 pub record Demand3AtC : Type 0 where
   -- over any two histories of C calls: what is told to those who are shut out is a function of the record and of the calls that are watched
   pub secrecy : Secrecy program plain
-  -- a call by one who is shut out changes nothing that is stored, unless it is a reservation-out call
-  pub still : (s : Store) (c : Call) → T (not (isOut c)) → T (isShutOut s c) → storeIn (s .format) (executed s c) ≡ s
+  -- a call by one who is shut out changes nothing that is stored, unless it is a reservation-out call or something waits for the caller
+  pub still : (s : Store) (c : Call) → T (not (isOut c)) → T (isShutOut s c) → T (not (isWaitedFor (s .unit) c)) → storeIn (s .format) (executed s c) ≡ s
+  -- and then it changes that alone
+  pub own-alone : (s : Store) (c : Call) → T (isSomebody c) → T (isWaitedFor (s .unit) c)
+      → (storeIn (s .format) (executed s c) ≡ s) ⊎ (storeIn (s .format) (executed s c) ≡ withUnit s (relieved (s .unit) (c .nexus)))
   -- which changes no block and no mapping
   pub out-pool : (s : Store) (c : Call) → T (isOut c) → storeIn (s .format) (executed s c) .pool ≡ s .pool

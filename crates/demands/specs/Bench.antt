@@ -8,6 +8,7 @@ use Rattle.fields.specs.Field.{bytes}
 use Rattle.answers.specs.Sense.{fixed}
 use Rattle.rights.specs.declared.Place.{Place}
 use Rattle.rights.specs.Places.{unused}
+use Rattle.rights.specs.Attentions.{noAttentions}
 use Rattle.store.specs.Store.{Store, Call}
 use Rattle.store.specs.Fresh.{freshStore}
 
@@ -38,11 +39,15 @@ two = places (at 1 0x11 ∷ at 2 0x22 ∷ [])
 unfoldable pub eight : List Place
 eight = at 1 0x11 ∷ at 2 0x22 ∷ at 3 0x33 ∷ at 4 0x44 ∷ at 5 0x55 ∷ at 6 0x66 ∷ at 7 0x77 ∷ at 8 0x88 ∷ []
 
--- capacity 8, with these owners and bytes of the slots, registrations, type, holder and generation
+-- capacity 8, with these owners and bytes of the slots, registrations, type, holder and generation; nothing waits
 unfoldable pub made-of : List ℕ → List ℕ → List Place → ℕ → ℕ → ℕ → Store
 made-of owners medium places kind holder generation = record {
   format = fixed;
-  unit = record { capacity = 8; rights = record { places = places; kind = kind; holder = holder; generation = generation } };
+  unit = record {
+    capacity = 8;
+    rights = record { places = places; kind = kind; holder = holder; generation = generation };
+    attentions = noAttentions;
+  };
   pool = record { owners = owners; medium = medium };
 }
 

@@ -101,7 +101,7 @@ sameRights r q =
     samePlaces (r .places) (q .places) && (eqb (r .kind) (q .kind) && (eqb (r .holder) (q .holder) && eqb (r .generation) (q .generation)))
 
 unfoldable pub sameUnit : Unit → Unit → Bool
-sameUnit u v = eqb (u .capacity) (v .capacity) && sameRights (u .rights) (v .rights)
+sameUnit u v = eqb (u .capacity) (v .capacity) && (sameRights (u .rights) (v .rights) && same (u .attentions) (v .attentions))
 
 unfoldable pub samePool : Pool → Pool → Bool
 samePool p q = same (p .owners) (q .owners) && same (p .medium) (q .medium)

@@ -11,7 +11,7 @@ use Rattle.forms.specs.declared.Command.{Command}
 use Rattle.store.specs.Store.{Store, Call, usable}
 use Rattle.store.specs.Conflict.{conflict, ruled}
 use Rattle.demands.specs.History.{Build, isOut}
-use Rattle.demands.specs.Contents.{AsksFor, byItself}
+use Rattle.demands.specs.Contents.{AsksFor, byItself, Quiet}
 
 -- Q-5: "Not one answer changes": the table says what the rule says, of every rights, nexus and command
 abbrev pub TableIsRule : Type 0
@@ -21,5 +21,5 @@ TableIsRule = (r : Rights) (n : ℕ) (k : Command) → conflict r n k ≡ ruled 
 -- the command; only PERSISTENT RESERVE OUT, whose row has none, has conflicts of its own
 abbrev pub CellsDecide : Build → Type 0
 CellsDecide f =
-    (k : Command) (s : Store) (c : Call) → AsksFor k c → T (not (isOut c)) → T (usable s) → byItself (s .format) c ≡ Good
+    (k : Command) (s : Store) (c : Call) → AsksFor k c → T (not (isOut c)) → T (usable s) → byItself (s .format) c ≡ Good → Quiet s c
     → f s c .seen .answer ≡ Conflict ↔ T (conflict (s .unit .rights) (c .nexus) k)

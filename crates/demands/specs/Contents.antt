@@ -2,7 +2,7 @@
 -- Assumes nothing.
 use mathlib.Core.Path.{_≡_}
 use mathlib.Core.Logic.{_≢_}
-use mathlib.Core.Bool.{Bool, true, false, _&&_, _||_}
+use mathlib.Core.Bool.{Bool, true, false, not, _&&_, _||_}
 use mathlib.Core.List.{List, [], _∷_, _++_}
 use Prim.Native.Nat.{ℕ, zero, suc, _+_, _-_, _≤_, _<_}
 use lib.Dec.{T, eqb, leb, ltb}
@@ -30,7 +30,7 @@ use Rattle.forms.specs.Tests.{codeRows, lengthRows, fieldRows}
 use Rattle.store.specs.declared.Unit.{Unit}
 use Rattle.store.specs.Store.{Store, Call, Result, usable}
 use Rattle.store.specs.Conflict.{conflict}
-use Rattle.store.specs.Step.{callRows, step}
+use Rattle.store.specs.Step.{callRows, due, step}
 
 -- ---- a call on the blocks
 
@@ -61,10 +61,15 @@ unfoldable pub byItself : ℕ → Call → Answer
 byItself format c =
     first (callRows format c ++ (codeRows (entryOf (c .cdb)) ++ (lengthRows (entryOf (c .cdb)) (c .cdb) ++ fieldRows (entryOf (c .cdb)) (c .cdb))))
 
--- it comes as far as the command's own tests: the store is usable, the call is right by itself, and no reservation is in its way
+-- nothing that waits for the caller is due: nothing waits, or the command is INQUIRY
+abbrev pub Quiet : Store → Call → Type 0
+Quiet s c = T (not (due (s .unit) (c .nexus) (c .cdb)))
+
+-- it comes as far as the command's own tests: the store is usable, the call is right by itself, nothing waits, and no reservation is in its way
 pub record Reaches {m : Move} {c : Call} (s : Store) (a : Asks m c) : Type 0 where
   pub store : T (usable s)
   pub call : byItself (s .format) c ≡ Good
+  pub quiet : Quiet s c
   pub free : conflict (s .unit .rights) (c .nexus) (Moves m) ≡ false
 
 -- its blocks lie within the capacity
@@ -176,7 +181,7 @@ names (d ∷ ds) b = covers d b || names ds b
 
 -- ---- stores that differ in their slots alone
 
--- the format and the unit's record (capacity, rights and generation) are the same, and the pools are alike: free slots, mapped blocks, and what every
+-- the format and the unit's record (capacity, rights, generation and attentions) are the same, and the pools are alike: free slots, mapped blocks, and what every
 -- block reads
 pub record Same (s t : Store) : Type 0 where
   pub format : s .format ≡ t .format

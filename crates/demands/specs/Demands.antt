@@ -1,7 +1,7 @@
 -- The three demands, of any build; proofs/Demand1, Demand2 and Demand3 prove them of `step`.
 -- Assumes nothing.
 use mathlib.Core.Path.{_≡_}
-use mathlib.Core.Logic.{_≢_}
+use mathlib.Core.Logic.{_≢_, _⊎_}
 use mathlib.Core.Bool.{not, cond}
 use mathlib.Core.List.{List, [], _∷_}
 use Prim.Native.Nat.{ℕ, _+_, _*_, _%_, _^_}
@@ -19,10 +19,10 @@ use Rattle.forms.specs.declared.Move.{Move}
 use Rattle.forms.specs.declared.Move.the-variants.{Read, Write, Unmap}
 use Rattle.forms.specs.Forms.{countIn}
 use Rattle.store.specs.declared.Unit.{Unit}
-use Rattle.store.specs.Store.{Store, Call, usable, seenOf}
+use Rattle.store.specs.Store.{Store, Call, withUnit, usable, relieved, seenOf}
 use Rattle.store.specs.Fresh.{freshStore}
 use Rattle.store.specs.Step.{step}
-use Rattle.demands.specs.History.{Event, call, Machine, Build, after, machine, isOut, isShutOut, isSomebody, seenAll, watchedOn, heardOn, replay, watched, heard}
+use Rattle.demands.specs.History.{Event, call, Machine, Build, after, machine, isOut, isShutOut, isSomebody, isWaitedFor, seenAll, watchedOn, heardOn, replay, watched, heard}
 use Rattle.demands.specs.Checker.{allPassed}
 use Rattle.demands.specs.Contents.{Asks, IsGood, SameRange, Apart, descriptorsOf, names, Same, isTransfer, SaysSame, SameButPlace}
 use Rattle.demands.specs.Cases.{cases}
@@ -31,11 +31,13 @@ use Rattle.demands.specs.Generation.{generation, raising}
 -- Demand 1. Every call gets a listed answer; "A refused command leaves the medium, the map, the reservations and the data buffer unchanged".
 pub record Demand1 (f : Build) : Type 0 where
   -- "Number 9 is not used"
-  pub listed : (s : Store) (c : Call) → T (isOneOf (numberOf (f s c .seen .answer)) (0 ∷ 1 ∷ 2 ∷ 3 ∷ 4 ∷ 5 ∷ 6 ∷ 7 ∷ 8 ∷ 10 ∷ 11 ∷ 12 ∷ []))
+  pub listed : (s : Store) (c : Call) → T (isOneOf (numberOf (f s c .seen .answer)) (0 ∷ 1 ∷ 2 ∷ 3 ∷ 4 ∷ 5 ∷ 6 ∷ 7 ∷ 8 ∷ 10 ∷ 11 ∷ 12 ∷ 13 ∷ []))
   -- a valid store, within its bounds and lent its whole pool, stays one
   pub keeps : (s : Store) (c : Call) → T (usable s) → T (usable (after f s c))
-  -- a refusal changes nothing stored, no byte of data-in, and returns none
-  pub refusal-store : (s : Store) (c : Call) → f s c .seen .answer ≢ Good → after f s c ≡ s
+  -- a refusal changes nothing stored, no byte of data-in, and returns none; Q-6: "Demand 1 excepts that clearing": 13 takes away what waited for its
+  -- caller, and nothing else
+  pub refusal-store : (s : Store) (c : Call) → f s c .seen .answer ≢ Good → numberOf (f s c .seen .answer) ≢ 13 → after f s c ≡ s
+  pub attention-store : (s : Store) (c : Call) → numberOf (f s c .seen .answer) ≡ 13 → after f s c ≡ withUnit s (relieved (s .unit) (c .nexus))
   pub refusal-data : (s : Store) (c : Call) → f s c .seen .answer ≢ Good → f s c .seen .dataIn ≡ c .dataIn
   pub refusal-none : (s : Store) (c : Call) → f s c .seen .answer ≢ Good → f s c .seen .returned ≡ 0
   -- sense changes by the table of answers alone, and only the bytes that the store's format writes
@@ -67,9 +69,9 @@ pub record Storage : Type 0 where
   pub write-then-read : (s : Store) (w r : Call) (a : Asks Write w) (b : Asks Read r) → SameRange (a .request) (b .request)
       → IsGood s w → IsGood (after step s w) r
       → take (512 * countIn (a .request)) (step (after step s w) r .seen .dataIn) ≡ take (512 * countIn (a .request)) (w .dataOut)
-  -- a READ of other blocks sees nothing of a WRITE
+  -- a READ of other blocks sees nothing of a WRITE, unless that only told what waited
   pub write-keeps-others : (s : Store) (w r : Call) (a : Asks Write w) (b : Asks Read r) → Apart (a .request) (b .request)
-      → step (after step s w) r .seen ≡ step s r .seen
+      → numberOf (step s w .seen .answer) ≢ 13 → step (after step s w) r .seen ≡ step s r .seen
   -- after an UNMAP the blocks that a considered descriptor names read as zeros, and all others as before
   pub unmap-contents : (s : Store) (c : Call) (a : Asks Unmap c) → IsGood s c → (b : ℕ)
       → readBlock (after step s c .pool) b ≡ cond (names (descriptorsOf (a .request) (c .dataOut)) b) (zeros 512) (readBlock (s .pool) b)
@@ -90,11 +92,14 @@ pub record Demand3 (f : Build) : Type 0 where
   -- "Take two valid stores, within their bounds and lent their whole pool at every call, of equal capacity and equal registrations (place by
   -- place), reservation and generation; their blocks and maps may differ. Run a history on each, with the same reservation-out calls and the same
   -- calls by nexuses then shut out from reading, in the same order and with the same lent data and sense buffers. All other calls may differ.
-  -- Then each shut-out call gives the same answer, sense and buffer in both." Q-8: "Demand 3's two stores share the format."
+  -- Then each shut-out call gives the same answer, sense and buffer in both." Q-8: "Demand 3's two stores share the format." Q-6: "demand 3 counts
+  -- attentions as equal at the start and asks that calls by a nexus with one waiting agree too": attentions are part of the unit's record
   pub secret : (s t : Store) (cs ds : List Call) → T (usable s) → T (usable t) → s .format ≡ t .format → s .unit ≡ t .unit
       → watched f s cs ≡ watched f t ds → heard f s cs ≡ heard f t ds
   -- "Apart from reservation-out calls, a shut-out call changes no stored thing"
-  pub still : (s : Store) (c : Call) → T (not (isOut c)) → T (isShutOut s c) → after f s c ≡ s
+  pub still : (s : Store) (c : Call) → T (not (isOut c)) → T (isShutOut s c) → T (not (isWaitedFor (s .unit) c)) → after f s c ≡ s
+  -- Q-6: "such a call may change only its own": what a call by a nexus with one waiting leaves is the store but for that, a reservation-out call or not
+  pub own-alone : (s : Store) (c : Call) → T (isSomebody c) → T (isWaitedFor (s .unit) c) → (after f s c ≡ s) ⊎ (after f s c ≡ withUnit s (relieved (s .unit) (c .nexus)))
   -- "and a reservation-out call never changes a block or a mapping."
   pub out-pool : (s : Store) (c : Call) → T (isOut c) → after f s c .pool ≡ s .pool
 

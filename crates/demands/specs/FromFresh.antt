@@ -2,7 +2,7 @@
 -- no map is spoken of.
 -- Assumes nothing.
 use mathlib.Core.Path.{_≡_}
-use mathlib.Core.Bool.{cond}
+use mathlib.Core.Bool.{_||_, cond}
 use mathlib.Core.List.{List, [], _∷_, _++_}
 use Prim.Native.Nat.{ℕ, zero, suc, _-_, _*_}
 use lib.Dec.{T}
@@ -10,6 +10,7 @@ use lib.ListN.{take, drop}
 use Rattle.fields.specs.Bytes.{zeros}
 use Rattle.answers.specs.declared.Answer.{Answer}
 use Rattle.answers.specs.declared.Answer.the-variants.{Good}
+use Rattle.answers.specs.Answers.{isAttention}
 use Rattle.answers.specs.Order.{ifGood}
 use Rattle.pool.specs.Pool.{readBlock}
 use Rattle.forms.specs.declared.Move.the-variants.{Read, Write, WriteSame, Unmap, Status}
@@ -35,10 +36,10 @@ unfoldable pub answered : Store → List Event → List Answered
 answered s [] = []
 answered s (call c ∷ es) = record { sent = c; answer = step s c .seen .answer } ∷ answered (after step s c) es
 
--- of a history, the reservation-out calls
-unfoldable pub outs : List Event → List Event
+-- of calls with their answers, the reservation-out calls, and those that were told what waited
+unfoldable pub outs : List Answered → List Event
 outs [] = []
-outs (call c ∷ es) = add (isOut c) (call c) (outs es)
+outs (x ∷ xs) = add (isOut (x .sent) || isAttention (x .answer)) (call (x .sent)) (outs xs)
 
 -- ---- what a block reads by that
 
@@ -90,6 +91,7 @@ pub record FromFresh (s : Store) : Type 0 where
   pub read-back : (es : List Event) (r : Call) (a : Asks Read r) → IsGood (afterAll (machine step) s es) r
       → step (afterAll (machine step) s es) r .seen
       ≡ seenOf (s .format) Good (recalledBlocks (answered s es) (addressIn (a .request)) (countIn (a .request))) r
-  -- registrations, reservation and generation are a function of the reservation-out calls alone: those calls, one after another, on a store with
-  -- nothing in it lead to the same
-  pub rights-by-outs : (es : List Event) → afterAll (machine step) s es .unit ≡ afterAll (machine step) (plain (s .format) (s .unit)) (outs es) .unit
+  -- registrations, reservation, generation and attentions are a function of the reservation-out calls and of those that are answered 13 alone: those
+  -- calls, one after another, on a store with nothing in it lead to the same
+  pub rights-by-outs : (es : List Event)
+      → afterAll (machine step) s es .unit ≡ afterAll (machine step) (plain (s .format) (s .unit)) (outs (answered s es)) .unit

@@ -1,14 +1,14 @@
 -- Histories: what happens to a machine, one thing after another, and what is heard of it by those who are shut out from reading. Of any machine,
 -- so that another engine, and useless builds, can be put in.
 -- Assumes nothing.
-use mathlib.Core.Bool.{Bool, true, false, _&&_, _||_}
+use mathlib.Core.Bool.{Bool, true, false, not, _&&_, _||_}
 use mathlib.Core.List.{List, [], _∷_, map}
 use Prim.Native.Nat.{ℕ}
 use lib.Dec.{eqb, leb}
 use Rattle.fields.specs.Field.{byte}
 use Rattle.rights.specs.Bounds.{lastNexus}
 use Rattle.store.specs.declared.Unit.{Unit}
-use Rattle.store.specs.Store.{Store, Call, Seen, Result, usable}
+use Rattle.store.specs.Store.{Store, Call, Seen, Result, usable, waiting}
 use Rattle.store.specs.Conflict.{shutOut}
 
 -- ---- machines
@@ -67,9 +67,13 @@ isShutOut s c = shutOut (s .unit .rights) (c .nexus)
 unfoldable pub isSomebody : Call → Bool
 isSomebody c = leb (c .nexus) lastNexus
 
--- "reservation-out calls and … calls by nexuses then shut out from reading"
+-- Q-6: "calls by a nexus with one waiting"
+unfoldable pub isWaitedFor : Unit → Call → Bool
+isWaitedFor u c = not (eqb (waiting u (c .nexus)) 0)
+
+-- "reservation-out calls and … calls by nexuses then shut out from reading"; Q-6: "and asks that calls by a nexus with one waiting agree too"
 unfoldable pub isKept : Unit → Call → Bool
-isKept u c = isSomebody c && (isOut c || shutOut (u .rights) (c .nexus))
+isKept u c = isSomebody c && (isOut c || (shutOut (u .rights) (c .nexus) || isWaitedFor u c))
 
 abbrev pub kept : Store → Call → Bool
 kept s c = isKept (s .unit) c

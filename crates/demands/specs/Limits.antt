@@ -23,7 +23,7 @@ use Rattle.forms.specs.declared.Command.the-variants.{Tells}
 use Rattle.forms.specs.Forms.{entryOf, countIn, allocationIn, listLengthIn}
 use Rattle.store.specs.Store.{Store, Call, usable}
 use Rattle.demands.specs.History.{Build, after}
-use Rattle.demands.specs.Contents.{AsksFor, Asks, addressIn, Reaches, isTransfer, longOf, control, descriptorsOf, names}
+use Rattle.demands.specs.Contents.{AsksFor, Asks, addressIn, Quiet, Reaches, isTransfer, longOf, control, descriptorsOf, names}
 use Rattle.demands.specs.Reservations.{GoodBy}
 use Rattle.demands.specs.WriteSame.{Clears, covers}
 
@@ -105,10 +105,11 @@ pub record Heard (s : Store) (c : Call) : Type 0 where
   pub nexus : c .nexus ≤ 15
   pub sense : senseBytes (s .format) ≤ length (c .sense)
 
--- nothing stands before the fields: the CDB is as long as its code has it, and NACA is clear
+-- nothing stands before the fields: the CDB is as long as its code has it, nothing that waits is due, and NACA is clear
 pub record Fielded (s : Store) (c : Call) : Type 0 where
   pub heard : Heard s c
   pub long : length (c .cdb) ≡ longOf (entryOf (c .cdb))
+  pub quiet : Quiet s c
   pub naca : bit 2 (control c) ≡ false
 
 -- byte 1 bits 7-5

@@ -11,7 +11,7 @@ use lib.ListN.{length}
 use Rattle.fields.specs.Field.{field, byte, bit}
 use Rattle.fields.specs.Bits.{Bits, within, firstByte, topBit, bitCount, AgreeIn}
 use Rattle.answers.specs.declared.Refusal.{Refusal}
-use Rattle.answers.specs.declared.Refusal.the-variants.{NotListed, InvalidField, OutOfRange, ListLength, ListField, NoPlace, OtherType, NoRoom}
+use Rattle.answers.specs.declared.Refusal.the-variants.{NotListed, InvalidField, OutOfRange, ListLength, ListField, NoPlace, OtherType, NoRoom, RegistrationsPreempted, ReservationsPreempted, ReservationsReleased}
 use Rattle.answers.specs.declared.Answer.{Answer}
 use Rattle.answers.specs.declared.Answer.the-variants.{Good, Refused, Conflict, Unusable, Short}
 use Rattle.answers.specs.Answers.{numberOf, invalidField, listField}
@@ -24,7 +24,7 @@ use Rattle.forms.specs.Tests.{checkRows, serviceChecks, fieldRows}
 use Rattle.store.specs.Store.{Store, Call, usable}
 use Rattle.store.specs.Step.{guardRows, ownRows}
 use Rattle.demands.specs.History.{Build}
-use Rattle.demands.specs.Contents.{byItself}
+use Rattle.demands.specs.Contents.{byItself, Quiet}
 use Rattle.demands.specs.Limits.{Heard}
 use Rattle.demands.specs.SenseRead.{specific, sksv, commandData, bpv, bitPointer, fieldPointer}
 
@@ -62,9 +62,9 @@ pub record Pointed (f : Build) : Type 0 where
   pub first-in-cdb : (s : Store) (c : Call) → numberOf (f s c .seen .answer) ≡ 2 → f s c .seen .answer ≡ first (fieldRows (entryOf (c .cdb)) (c .cdb))
   pub first-in-list : (s : Store) (c : Call) → numberOf (f s c .seen .answer) ≡ 5 → f s c .seen .answer ≡ first (ownRows (askedOf (c .cdb)) s c)
   -- and so it is answered, where a call comes as far as its fields, or as far as its list
-  pub cdb-due : (s : Store) (c : Call) → Heard s c → (code : Code) → entryOf (c .cdb) ≡ Listed code → length (c .cdb) ≡ code .long
+  pub cdb-due : (s : Store) (c : Call) → Heard s c → (code : Code) → entryOf (c .cdb) ≡ Listed code → length (c .cdb) ≡ code .long → Quiet s c
       → (b : Bits) → first (fieldRows (entryOf (c .cdb)) (c .cdb)) ≡ invalidField b → f s c .seen .answer ≡ invalidField b
-  pub list-due : (s : Store) (c : Call) → T (usable s) → byItself (s .format) c ≡ Good → first (guardRows (askedOf (c .cdb)) (s .unit .rights) (c .nexus)) ≡ Good
+  pub list-due : (s : Store) (c : Call) → T (usable s) → byItself (s .format) c ≡ Good → Quiet s c → first (guardRows (askedOf (c .cdb)) (s .unit .rights) (c .nexus)) ≡ Good
       → (b : Bits) → first (ownRows (askedOf (c .cdb)) s c) ≡ listField b → f s c .seen .answer ≡ listField b
   -- "For answers 2 and 5 fill sense bytes 15 to 17": each names a field, and sense points at it
   pub cdb-named : (s : Store) (c : Call) → numberOf (f s c .seen .answer) ≡ 2 → (b : Bits) × (f s c .seen .answer ≡ invalidField b)
@@ -105,6 +105,9 @@ placeOf (ListField byte top n) = placed byte top n
 placeOf NoPlace = unplaced
 placeOf OtherType = unplaced
 placeOf (NoRoom address) = unplaced
+placeOf RegistrationsPreempted = unplaced
+placeOf ReservationsPreempted = unplaced
+placeOf ReservationsReleased = unplaced
 
 unfoldable pub placeIn : Answer → Place
 placeIn Good = unplaced

@@ -8,6 +8,7 @@ use Prim.Native.Nat.{ℕ}
 use lib.Dec.{T, eqb}
 use lib.ListN.{take}
 use Rattle.answers.specs.declared.Answer.the-variants.{Good, Conflict}
+use Rattle.answers.specs.Answers.{numberOf}
 use Rattle.rights.specs.declared.Rights.{Rights}
 use Rattle.rights.specs.declared.Action.{Action}
 use Rattle.rights.specs.declared.Action.the-variants.{Register, Reserve, Release, Clear, Preempt, RegisterIgnoring}
@@ -24,7 +25,7 @@ use Rattle.forms.specs.Forms.{Asked, nothing, asks, askedOf, allocationIn}
 use Rattle.store.specs.Store.{Store, Call, usable, seenOf}
 use Rattle.demands.specs.History.{Build, after}
 use Rattle.demands.specs.Generation.{serviceKey}
-use Rattle.demands.specs.Contents.{AsksFor, Asks, byItself}
+use Rattle.demands.specs.Contents.{AsksFor, Asks, byItself, Quiet}
 
 -- ---- words
 
@@ -195,7 +196,8 @@ pub record Reservations (f : Build) : Type 0 where
   -- RELEASE: "by a holder with the same type, ends it …. No reservation or not a holder: GOOD, nothing."
   pub release-type : (s : Store) (c : Call) (a : AsksFor (Alters Release) c) → GoodBy f s c → T (isHolder s (c .nexus)) → typeIn s ≡ a .request .kind
   pub release-ends : (s : Store) (c : Call) → AsksFor (Alters Release) c → GoodBy f s c → T (isHolder s (c .nexus)) → typeIn (after f s c) ≡ 0
-  pub release-nothing : (s : Store) (c : Call) → AsksFor (Alters Release) c → T (not (isHolder s (c .nexus))) → after f s c ≡ s
+  pub release-nothing : (s : Store) (c : Call) → AsksFor (Alters Release) c → T (not (isHolder s (c .nexus))) → numberOf (f s c .seen .answer) ≢ 13
+      → after f s c ≡ s
   -- REGISTER: "Service action key nonzero registers (lowest free place) or changes the key; 0 unregisters or does nothing."
   pub register-key : (a : Action) → T (registers a) → (s : Store) (c : Call) → AsksFor (Alters a) c → GoodBy f s c
       → keyIn (after f s c) (c .nexus) ≡ serviceKey c
@@ -215,6 +217,6 @@ pub record Reservations (f : Build) : Type 0 where
   pub reservation-told : (s : Store) (c : Call) (a : AsksFor (Tells Reservation) c) → GoodBy f s c
       → f s c .seen ≡ seenOf (s .format) Good (take (allocationIn (a .request)) (reservationData (s .unit .rights))) c
   -- a call on the blocks that comes as far as the guard is answered 10 exactly where the table stops it; "All other commands pass."
-  pub conflict-table : (m : Move) (s : Store) (c : Call) → Asks m c → T (usable s) → byItself (s .format) c ≡ Good
+  pub conflict-table : (m : Move) (s : Store) (c : Call) → Asks m c → T (usable s) → byItself (s .format) c ≡ Good → Quiet s c
       → f s c .seen .answer ≡ Conflict ↔ T (stopped s c m)
   pub others-pass : (t : Tell) (s : Store) (c : Call) → AsksFor (Tells t) c → f s c .seen .answer ≢ Conflict

@@ -9,7 +9,7 @@ use Prim.Native.Nat.{ℕ, _+_, _≤_, _<_}
 use lib.Dec.{T, leb}
 use lib.ListN.{length}
 use Rattle.answers.specs.declared.Refusal.{Refusal}
-use Rattle.answers.specs.declared.Refusal.the-variants.{NotListed, InvalidField, OutOfRange, ListLength, ListField, NoPlace, OtherType, NoRoom}
+use Rattle.answers.specs.declared.Refusal.the-variants.{NotListed, InvalidField, OutOfRange, ListLength, ListField, NoPlace, OtherType, NoRoom, RegistrationsPreempted, ReservationsPreempted, ReservationsReleased}
 use Rattle.answers.specs.declared.Codes.{Codes}
 use Rattle.answers.specs.declared.Answer.the-variants.{Refused, Unusable}
 use Rattle.answers.specs.Answers.{codesOf, numberOf, outOfRange, noRoom}
@@ -42,6 +42,9 @@ addressOf (ListField at top n) = absent
 addressOf NoPlace = absent
 addressOf OtherType = absent
 addressOf (NoRoom address) = present address
+addressOf RegistrationsPreempted = absent
+addressOf ReservationsPreempted = absent
+addressOf ReservationsReleased = absent
 
 -- do these descriptors all end within the capacity
 unfoldable pub allInside : ℕ → List Descriptor → Bool

@@ -1,9 +1,11 @@
 -- What the commands that tell return: of any build, so that wrong ones can be put in; proofs/Telling proves it of `step`.
 -- Assumes nothing.
 use mathlib.Core.Path.{_≡_}
+use mathlib.Core.Logic.{_≢_}
 use mathlib.Core.List.{[]}
 use lib.ListN.{take}
 use Rattle.answers.specs.declared.Answer.the-variants.{Good}
+use Rattle.answers.specs.Answers.{numberOf}
 use Rattle.forms.specs.declared.Tell.{Tell}
 use Rattle.forms.specs.declared.Tell.the-variants.{Ready, Inquiry, VitalData, Capacity10, Capacity16}
 use Rattle.forms.specs.declared.Command.the-variants.{Tells}
@@ -29,5 +31,5 @@ pub record Telling (f : Build) : Type 0 where
       → f s c .seen ≡ seenOf (s .format) Good (capacity10Data (s .unit .capacity)) c
   pub capacity-16 : (s : Store) (c : Call) (a : AsksFor (Tells Capacity16) c) → GoodBy f s c
       → f s c .seen ≡ seenOf (s .format) Good (take (allocationIn (a .request)) (capacity16Data (s .unit .capacity))) c
-  -- and nothing stored changes
-  pub leaves : (t : Tell) (s : Store) (c : Call) → AsksFor (Tells t) c → after f s c ≡ s
+  -- and nothing stored changes, unless the call only told what waited
+  pub leaves : (t : Tell) (s : Store) (c : Call) → AsksFor (Tells t) c → numberOf (f s c .seen .answer) ≢ 13 → after f s c ≡ s

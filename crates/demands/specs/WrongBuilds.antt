@@ -12,6 +12,7 @@ use Rattle.answers.specs.Sense.{fixed}
 use Rattle.pool.specs.Pool.{pool}
 use Rattle.rights.specs.Places.{unused, registration}
 use Rattle.rights.specs.Rights.{isOneOf, holds, withPlaces, ended}
+use Rattle.rights.specs.Attentions.{noAttentions}
 use Rattle.forms.specs.Forms.{action}
 use Rattle.store.specs.Store.{Store, Call, Seen, usable, withRights, withUnit, withPool, seenOf}
 use Rattle.store.specs.Step.{step}
@@ -88,6 +89,7 @@ shown = record {
       generation = 0;
       kind = 1;
     };
+    attentions = noAttentions;
   };
   pool = pool (0 ∷ []) (zeros 512);
 }
@@ -131,6 +133,7 @@ guarded owner = record {
       generation = 0;
       kind = 3;
     };
+    attentions = noAttentions;
   };
   pool = pool (owner ∷ []) (zeros 512);
 }

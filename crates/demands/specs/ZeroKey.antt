@@ -26,11 +26,11 @@ use Rattle.forms.specs.declared.Tell.the-variants.{Keys, Reservation}
 use Rattle.forms.specs.declared.Move.{Move}
 use Rattle.forms.specs.declared.Command.the-variants.{Tells, Alters}
 use Rattle.forms.specs.Forms.{allocationIn, listLengthIn}
-use Rattle.store.specs.Store.{Store, Call, Seen, usable, seenOf}
+use Rattle.store.specs.Store.{Store, Call, Seen, withUnit, usable, relieved, seenOf}
 use Rattle.store.specs.Alter.{parametersOf}
 use Rattle.demands.specs.History.{Event, call, Build, after, machine, afterAll, seenAll}
 use Rattle.demands.specs.Generation.{generation, serviceKey}
-use Rattle.demands.specs.Contents.{AsksFor, Asks, byItself}
+use Rattle.demands.specs.Contents.{AsksFor, Asks, byItself, Quiet}
 use Rattle.demands.specs.Reservations.{GoodBy, keyIn, isRegistered, isHolder, typeIn, outsider, conflictTable, says}
 
 -- ---- words
@@ -64,10 +64,15 @@ unfoldable pub oneHolder : ℕ → ℕ → ℕ → List ℕ
 oneHolder generation key type =
     bytes 4 generation ++ (bytes 4 16 ++ (bytes 8 (cond (allHold type) 0 key) ++ (zeros 2 ++ (bytes 4 type ++ zeros 2))))
 
+-- the store once a nexus was told what waited for it
+unfoldable pub told : Store → ℕ → Store
+told s n = withUnit s (relieved (s .unit) n)
+
 -- ---- one call
 
 pub record ZeroKey (f : Build) : Type 0 where
-  pub answer : (s : Store) (c : Call) → Sends (s .format) Preempt c → serviceKey c ≡ 0 → T (usable s) → f s c .seen .answer ≡ zeroAnswer s c
+  pub answer : (s : Store) (c : Call) → Sends (s .format) Preempt c → serviceKey c ≡ 0 → T (usable s) → Quiet s c
+      → f s c .seen .answer ≡ zeroAnswer s c
   -- "removes every other registration"; the sender keeps its key
   pub registrations : (s : Store) (c : Call) → AsksFor (Alters Preempt) c → GoodBy f s c → serviceKey c ≡ 0 → (n : ℕ)
       → keyIn (after f s c) n ≡ cond (eqb n (c .nexus)) (keyIn s n) 0
@@ -87,10 +92,10 @@ pub record ZeroKey (f : Build) : Type 0 where
   pub reservation-told : (s : Store) (c d : Call) (b : AsksFor (Alters Preempt) c) → GoodBy f s c → serviceKey c ≡ 0
       → (a : AsksFor (Tells Reservation) d) → GoodBy f (after f s c) d
       → f (after f s c) d .seen ≡ seenOf (s .format) Good (take (allocationIn (a .request)) (oneHolder (generation (after f s c)) (keyIn s (c .nexus)) (b .request .kind))) d
-  -- all others are outsiders from then on: their next READ, WRITE or UNMAP conflicts where the type named has it so
+  -- all others are outsiders from then on: once they were told, their next READ, WRITE or UNMAP conflicts where the type named has it so
   pub others : (m : Move) (s : Store) (c d : Call) (b : AsksFor (Alters Preempt) c) → GoodBy f s c → serviceKey c ≡ 0
       → Asks m d → byItself (s .format) d ≡ Good → d .nexus ≢ c .nexus
-      → f (after f s c) d .seen .answer ≡ Conflict ↔ T (says conflictTable (b .request .kind) outsider m)
+      → f (told (after f s c) (d .nexus)) d .seen .answer ≡ Conflict ↔ T (says conflictTable (b .request .kind) outsider m)
 
 -- ---- what has not moved
 
@@ -164,6 +169,6 @@ pub record TakenOver {format : ℕ} (f : Build) (s : Store) (t : Story format) :
       → f (ending f s t) c .seen ≡ seenOf format Good (take (allocationIn (a .request)) (oneKey 4 (t .key (t .sender)))) c
   pub reservation-told : (c : Call) (a : AsksFor (Tells Reservation) c) → GoodBy f (ending f s t) c
       → f (ending f s t) c .seen ≡ seenOf format Good (take (allocationIn (a .request)) (oneHolder 4 (t .key (t .sender)) (named t))) c
-  -- and the others are outsiders
+  -- and the others are outsiders, once they were told
   pub others : (m : Move) (c : Call) → Asks m c → byItself format c ≡ Good → c .nexus ≢ t .nexus (t .sender)
-      → f (ending f s t) c .seen .answer ≡ Conflict ↔ T (says conflictTable (named t) outsider m)
+      → f (told (ending f s t) (c .nexus)) c .seen .answer ≡ Conflict ↔ T (says conflictTable (named t) outsider m)

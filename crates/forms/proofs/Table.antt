@@ -6,11 +6,11 @@ use mathlib.Core.List.{List, [], _∷_}
 use Prim.Native.Nat.{ℕ}
 use lib.Dec.{T, eqb, eqb→eq}
 use Rattle.fields.specs.Field.{byte, bit}
-use Rattle.fields.proofs.Tests.{and-l, and-r, or-other, nand-rest, not-not-intro, true→T}
+use Rattle.fields.proofs.Tests.{and-l, and-r, or-other, nand-rest, not-not, not-not-intro, not-map, true→T}
 use Rattle.forms.specs.declared.Command.{Command}
 use Rattle.forms.specs.declared.Command.the-variants.{Tells, Moves, Alters}
 use Rattle.forms.specs.declared.Tell.{Tell}
-use Rattle.forms.specs.declared.Tell.the-variants.{Inquiry, VitalData}
+use Rattle.forms.specs.declared.Tell.the-variants.{Ready, Inquiry, VitalData, Capacity10, Capacity16, Keys, Reservation}
 use Rattle.forms.specs.declared.Span.the-variants.{Absent}
 use Rattle.forms.specs.declared.Test.{Test}
 use Rattle.forms.specs.declared.Test.the-variants.{Nothing, Page, VitalPage}
@@ -19,6 +19,7 @@ use Rattle.forms.specs.declared.Service.{Service}
 use Rattle.forms.specs.declared.Service.the-variants.{Served, Other}
 use Rattle.forms.specs.declared.Entry.{Entry}
 use Rattle.forms.specs.declared.Entry.the-variants.{Listed, Unlisted}
+use Rattle.forms.specs.declared.Request.{Request}
 use Rattle.forms.specs.Forms.{form, two, Line, takes, lines, listed, lookup, entryFor, entryOf, action, requestBy, Asked, nothing, asks, askedBy, askedIn, askedOf}
 
 -- a test of every line
@@ -199,6 +200,67 @@ module _ (cdb : List ℕ) where
 
   pub moves-code : T (movesIn (askedOf cdb)) → T (not (eqb (byte 0 cdb) 0x5F))
   moves-code = moves-other (byte 0 cdb) (askedOf cdb) out-asked
+
+-- ---- which code is INQUIRY's
+
+unfoldable pub isInquiring : Command → Bool
+isInquiring (Tells Inquiry) = true
+isInquiring (Tells VitalData) = true
+isInquiring (Tells Ready) = false
+isInquiring (Tells Capacity10) = false
+isInquiring (Tells Capacity16) = false
+isInquiring (Tells Keys) = false
+isInquiring (Tells Reservation) = false
+isInquiring (Moves m) = false
+isInquiring (Alters a) = false
+
+unfoldable pub inquiring : Entry → Bool
+inquiring e = not (rowRule (λ f. not (isInquiring (f .command))) e)
+
+-- 12h and no other
+unfoldable inquiryCommand : ℕ → Command → Bool
+inquiryCommand n k = eqb n 0x12 || not (isInquiring k)
+
+inquiry-rule : (n a : ℕ) → T (rowRule (λ f. inquiryCommand n (f .command)) (entryFor n a))
+unfolding entryFor lines rowRule serviceRule inquiryCommand all obeys isInquiring
+inquiry-rule n a = looked-up (λ n e. rowRule (λ f. inquiryCommand n (f .command)) e) n a Unlisted lines tt tt
+
+another : (n : ℕ) (e : Entry) → T (not (eqb n 0x12)) → T (rowRule (λ f. inquiryCommand n (f .command)) e) → T (not (inquiring e))
+unfolding rowRule serviceRule inquiryCommand inquiring
+another n Unlisted d t = tt
+another n (Listed code) d t = go (code .service) t
+  where
+    go : (v : Service) → T (serviceRule (λ f. eqb n 0x12 || not (isInquiring (f .command))) v)
+        → T (not (not (serviceRule (λ f. not (isInquiring (f .command))) v)))
+    go (Served f) h = not-not-intro (not (isInquiring (f .command))) (or-other (eqb n 0x12) (not (isInquiring (f .command))) d h)
+    go Other h = tt
+
+module _ (cdb : List ℕ) where
+  pub code-inquiring : T (eqb (byte 0 cdb) 0x12) → T (inquiring (entryOf cdb))
+  unfolding entryOf inquiring rowRule serviceRule isInquiring
+  code-inquiring t = rw (eqb→eq (byte 0 cdb) 0x12 t, inquiry-entry (action cdb)) (go (bit 0 (action cdb)))
+    where
+      go : (b : Bool) → T (inquiring (cond b (inquiryEntry VitalData VitalPage) (inquiryEntry Inquiry Page)))
+      go true = tt
+      go false = tt
+
+  pub other-inquiring : T (not (eqb (byte 0 cdb) 0x12)) → T (not (inquiring (entryOf cdb)))
+  unfolding entryOf
+  other-inquiring d = another (byte 0 cdb) (entryFor (byte 0 cdb) (action cdb)) d (inquiry-rule (byte 0 cdb) (action cdb))
+
+  -- so it is seen from what is asked for
+  asked-inquiring : (e : Entry) (r : Request) → askedIn e cdb ≡ asks r → T (inquiring e) → T (isInquiring (r .command))
+  unfolding inquiring rowRule serviceRule askedIn askedBy requestBy askedRule
+  asked-inquiring Unlisted r h t = absurd t
+  asked-inquiring (Listed code) r h t = go (code .service) h t
+    where
+      go : (v : Service) → askedBy v cdb ≡ asks r → T (not (serviceRule (λ f. not (isInquiring (f .command))) v)) → T (isInquiring (r .command))
+      go (Served f) e k = subst (λ (x : Asked). T (askedRule isInquiring x)) e (not-not (isInquiring (f .command)) k)
+      go Other e k = absurd k
+
+  pub asked-other : (r : Request) → askedOf cdb ≡ asks r → T (not (isInquiring (r .command))) → T (not (eqb (byte 0 cdb) 0x12))
+  unfolding askedOf
+  asked-other r h n = not-map (isInquiring (r .command)) (eqb (byte 0 cdb) 0x12) (λ t. asked-inquiring (entryOf cdb) r h (code-inquiring t)) n
 
 -- ---- lengths
 

@@ -1,12 +1,13 @@
 -- The one order of tests in its stages, and what a GOOD or a refusal of the whole says of each. Whoever wants to know of a stage cites these laws,
 -- and not the order's text: a stage more is put in here. Assumes nothing.
-use mathlib.Core.Path.{_≡_, refl, sym, ap, ap₂, _∙_}
-use mathlib.Core.Bool.{Bool, true, false, not}
+use mathlib.Core.Path.{_≡_, refl, sym, ap, ap₂, _∙_, subst}
+use mathlib.Core.Bool.{Bool, true, false, not, _&&_}
 use mathlib.Core.List.{List, [], _∷_, _++_, append-assoc}
 use Prim.Native.Nat.{ℕ, _≤_}
-use lib.Dec.{T, eqb, ltb, nltb→le}
+use lib.Dec.{T, T-not, eqb, ltb, nltb→le}
 use lib.ListN.{length}
-use Rattle.fields.proofs.Tests.{not-not, false→T, T-true, T-false}
+use Rattle.fields.specs.Field.{byte}
+use Rattle.fields.proofs.Tests.{not-not, not-not-intro, false→T, T-true, T-false}
 use Rattle.answers.specs.declared.Answer.{Answer}
 use Rattle.answers.specs.declared.Answer.the-variants.{Good, Refused, Conflict, Unusable}
 use Rattle.answers.specs.Order.{Row, _if_, first, next, refuses, refusing, firstOf, nextBy, refusingBy}
@@ -16,10 +17,13 @@ use Rattle.rights.specs.declared.Rights.{Rights}
 use Rattle.rights.specs.Attentions.{refusalOf}
 use Rattle.forms.specs.Forms.{entryOf, Asked, nothing, asks, askedOf}
 use Rattle.forms.specs.Tests.{codeRows, lengthRows, fieldRows}
+use Rattle.forms.specs.declared.Entry.{Entry}
+use Rattle.forms.specs.declared.Request.{Request}
+use Rattle.forms.proofs.Table.{isInquiring, inquiring, code-inquiring, other-inquiring, asked-other}
 use Rattle.forms.proofs.Refusing.{code-refusing, length-refusing, field-refusing, unserved}
 use Rattle.store.specs.declared.Unit.{Unit}
 use Rattle.store.specs.Store.{Store, Call, usable, waiting}
-use Rattle.store.specs.Step.{callRows, storeRows, due, attentionRows, guardRows, stageRows, ownRows, answerBy, answerTo}
+use Rattle.store.specs.Step.{callRows, storeRows, isInquiry, due, attentionRows, guardRows, stageRows, ownRows, answerBy, answerTo}
 
 -- ---- the answer of each stage
 
@@ -119,6 +123,39 @@ module _ (u : Unit) (n : ℕ) (cdb : List ℕ) where
   pub due-stops : T (due u n cdb) → first (attentionRows u n cdb) ≡ Refused (refusalOf (waiting u n))
   unfolding attentionRows
   due-stops t = row-stop (Refused (refusalOf (waiting u n))) (due u n cdb) [] (T-true _ t)
+
+-- where nothing waits nothing is due; what waits is due with any command but INQUIRY, which is seen from what is asked for and from the table's row
+module _ (u : Unit) (n : ℕ) where
+  pub none-undue : (cdb : List ℕ) → waiting u n ≡ 0 → T (not (due u n cdb))
+  unfolding due
+  none-undue cdb e = rw e tt
+
+  and-none : (b c : Bool) → T (not c) → (b && c) ≡ false
+  and-none true c t = T-false c t
+  and-none false c t = refl
+
+  pub inquiry-undue : (cdb : List ℕ) → T (eqb (byte 0 cdb) 0x12) → T (not (due u n cdb))
+  unfolding due isInquiry
+  inquiry-undue cdb t = rw (and-none (not (eqb (waiting u n) 0)) (not (eqb (byte 0 cdb) 0x12)) (not-not-intro (eqb (byte 0 cdb) 0x12) t)) tt
+
+  pub asked-due : (cdb : List ℕ) (q : Request) → askedOf cdb ≡ asks q → T (not (isInquiring (q .command))) → due u n cdb ≡ not (eqb (waiting u n) 0)
+  unfolding due isInquiry
+  asked-due cdb q e t = rw (T-false (eqb (byte 0 cdb) 0x12) (asked-other cdb q e t)) (and-true (not (eqb (waiting u n) 0)))
+    where
+      and-true : (b : Bool) → (b && true) ≡ b
+      and-true true = refl
+      and-true false = refl
+
+  pub entry-due : (cdb cdb′ : List ℕ) → entryOf cdb ≡ entryOf cdb′ → due u n cdb ≡ due u n cdb′
+  unfolding due isInquiry
+  entry-due cdb cdb′ e = ap (λ (b : Bool). not (eqb (waiting u n) 0) && not b) (go (eqb (byte 0 cdb) 0x12) (eqb (byte 0 cdb′) 0x12) (code-inquiring cdb) (other-inquiring cdb) (code-inquiring cdb′) (other-inquiring cdb′))
+    where
+      go : (b b′ : Bool) → (T b → T (inquiring (entryOf cdb))) → (T (not b) → T (not (inquiring (entryOf cdb))))
+          → (T b′ → T (inquiring (entryOf cdb′))) → (T (not b′) → T (not (inquiring (entryOf cdb′)))) → b ≡ b′
+      go true true f g f′ g′ = refl
+      go false false f g f′ g′ = refl
+      go true false f g f′ g′ = absurd (T-not (inquiring (entryOf cdb′)) (g′ tt) (subst (λ (x : Entry). T (inquiring x)) e (f tt)))
+      go false true f g f′ g′ = absurd (T-not (inquiring (entryOf cdb)) (g tt) (subst (λ (x : Entry). T (inquiring x)) (sym e) (f′ tt)))
 
 -- ---- where who calls, the buffers and the store are right
 

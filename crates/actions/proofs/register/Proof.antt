@@ -3,7 +3,7 @@
 use mathlib.Core.Path.{sym, _∙_}
 use borrow.Author.Tests.{not-true, not-false}
 use borrow.Author.Needs.{needs}
-use Rattle.actions.proofs.Refusals.{tag-refuses}
+use Rattle.answers.proofs.Refusals.{tag-refuses}
 use Rattle.actions.proofs.ActionCases.{register-flags, register-key, register-enters}
 use Rattle.actions.proofs.register.Statement.{statement}
 use Rattle.actions.proofs.register.Tie as tie

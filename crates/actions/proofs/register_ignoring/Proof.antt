@@ -2,7 +2,7 @@
 -- Assumes nothing.
 use mathlib.Core.Path.{sym, _∙_}
 use borrow.Author.Needs.{needs}
-use Rattle.actions.proofs.Refusals.{tag-refuses}
+use Rattle.answers.proofs.Refusals.{tag-refuses}
 use Rattle.actions.proofs.ActionCases.{ignoring-flags, ignoring-enters}
 use Rattle.actions.proofs.register_ignoring.Statement.{statement}
 use Rattle.actions.proofs.register_ignoring.Tie as tie

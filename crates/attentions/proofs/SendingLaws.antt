@@ -1,12 +1,12 @@
 -- A list written from its front, one element after another: the first i are those of the new list, the others those of the old one. And the test of
 -- every element so far. Assumes nothing.
 use mathlib.Core.Path.{_≡_, refl, sym, ap, _∙_}
-use mathlib.Core.Bool.{Bool, true, false, not, _&&_, _||_, cond}
+use mathlib.Core.Bool.{Bool, true, false, not, _&&_}
 use mathlib.Core.List.{List, [], _∷_}
 use Prim.Native.Nat.{ℕ, zero, suc, _+_, _≤_, _<_}
 use native.Mathlib.Numerals.{add-one}
 use native.Mathlib.Omega.{arith}
-use lib.Dec.{T, eqb, leb}
+use lib.Dec.{T, leb}
 use lib.ListN.{length, getD, set, drop}
 use lib.Seq.{drop-cons, drop-length}
 use Rattle.fields.proofs.Tests.{T-false}
@@ -15,6 +15,7 @@ use Rattle.rights.specs.declared.Action.{Action}
 use Rattle.rights.specs.declared.Action.the-variants.{Register, Reserve, Release, Clear, Preempt, RegisterIgnoring}
 use Rattle.rights.specs.Attentions.{eachOk}
 use Rattle.rights.specs.Notices.{released, releaseNotice, notice, renewed, notifiedFrom, notified}
+use Rattle.rights.proofs.AttentionLaws.{notified-none}
 use Rattle.attentions.specs.Silent.{silent}
 
 -- ---- what is not there is nothing
@@ -123,20 +124,5 @@ silent-notice Clear before after m t = absurd t
 silent-notice Preempt before after m t = absurd t
 silent-notice RegisterIgnoring before after m t = silent-release before after m t
 
-module _ (a : Action) (before after : Rights) (n : ℕ) (t : T (silent a before after)) where
-  keeps : (m old : ℕ) → renewed a before after n m old ≡ old
-  unfolding renewed
-  keeps m old = rw (silent-notice a before after m t) (go (eqb m n) 0)
-    where
-      go : (b : Bool) (y : ℕ) → cond (b || true) old y ≡ old
-      go true y = refl
-      go false y = refl
-
-  from-silent : (m : ℕ) (xs : List ℕ) → notifiedFrom a before after n m xs ≡ xs
-  unfolding notifiedFrom
-  from-silent m [] = refl
-  from-silent m (x ∷ xs) = rw (keeps m x, from-silent (suc m) xs)
-
-  pub silent-sends : (xs : List ℕ) → xs ≡ notified a before after n xs
-  unfolding notified
-  silent-sends xs = sym (from-silent 0 xs)
+pub silent-sends : (a : Action) (before after : Rights) (n : ℕ) → T (silent a before after) → (xs : List ℕ) → xs ≡ notified a before after n xs
+silent-sends a before after n t xs = sym (notified-none a before after n (λ m. silent-notice a before after m t) xs)

@@ -14,7 +14,6 @@ use Rattle.rights.specs.declared.Rights.{Rights}
 use Rattle.rights.specs.declared.Action.{Action}
 use Rattle.rights.specs.declared.Decision.{Decision}
 use Rattle.rights.specs.Actions.{acted}
-use Rattle.rights.proofs.AttentionLaws.{notified-still}
 use Rattle.forms.specs.declared.Tell.{Tell}
 use Rattle.forms.specs.declared.Move.{Move}
 use Rattle.forms.specs.declared.Move.the-variants.{Read, Write, WriteSame, Unmap, Status}
@@ -23,10 +22,11 @@ use Rattle.forms.specs.declared.Command.the-variants.{Tells, Moves, Alters}
 use Rattle.forms.specs.declared.Request.{Request}
 use Rattle.forms.proofs.Fields.{isCounted, Fits}
 use Rattle.store.specs.declared.Unit.{Unit}
-use Rattle.store.specs.Store.{Call, withAttentions, enacted, leaves}
+use Rattle.store.specs.Store.{Call, enacted, leaves}
 use Rattle.store.specs.Alter.{parametersOf, alterRows}
 use Rattle.store.specs.Move.{moveRows, moved, fetched}
 use Rattle.store.specs.Step.{commandRows, commandData, commandStore}
+use Rattle.store.proofs.StoreLaws.{enacted-still}
 use Rattle.reply.specs.declared.Outcome.{Outcome}
 use Rattle.reply.specs.Contract.{storeOf}
 use Rattle.reply.specs.Reply.{Replied, replyOf, served, serves}
@@ -61,12 +61,7 @@ whole-pool Conflict bs format u done kept dataIn = refl
 whole-pool Unusable bs format u done kept dataIn = refl
 whole-pool Short bs format u done kept dataIn = refl
 
--- an action that leaves the rights leaves the unit
-enacted-still : (a : Action) (n : ℕ) (u : Unit) → enacted a n u (u .rights) ≡ u
-unfolding enacted
-enacted-still a n u = ap (withAttentions u) (notified-still (u .rights) a n (u .attentions))
-
--- so a refused one leaves it
+-- a refused action leaves the unit
 pub altered-refused : (a : Action) (q : Request) (n : ℕ) (dataOut : List ℕ) (u : Unit) (x : Decision) → x ≡ altered a q (u .rights) n dataOut
     → T (refuses (x .answer)) → bare (x .answer) u ≡ altersTo a n u (altered a q (u .rights) n dataOut)
 unfolding altered

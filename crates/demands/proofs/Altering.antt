@@ -17,7 +17,8 @@ use Rattle.rights.proofs.Keeping.{makes, maker-registered, key-right}
 use Rattle.forms.specs.declared.Command.the-variants.{Alters}
 use Rattle.forms.specs.Forms.{askedOf}
 use Rattle.forms.proofs.Fields.{isMaker, asked-typed}
-use Rattle.store.specs.Store.{Store, Call, withRights, withUnit}
+use Rattle.rights.specs.Notices.{notified}
+use Rattle.store.specs.Store.{Store, Call, withUnit, enacted}
 use Rattle.store.specs.Alter.{parametersOf, alterRows}
 use Rattle.store.specs.Step.{commandRows, ownRows, commandStore, storeBy, step}
 use Rattle.store.proofs.Parts.{good-cleared, good-own}
@@ -29,7 +30,7 @@ use Rattle.demands.proofs.Moving.{good-usable, done-after}
 
 -- what it leaves where nothing refuses it
 pub altered-store : (a : Action) (s : Store) (c : Call) (w : AsksFor (Alters a) c)
-    → storeBy (askedOf (c .cdb)) s c ≡ withUnit s (withRights (s .unit) (acted a (s .unit .rights) (c .nexus) (parametersOf (w .request) (c .dataOut))))
+    → storeBy (askedOf (c .cdb)) s c ≡ withUnit s (enacted a (c .nexus) (s .unit) (acted a (s .unit .rights) (c .nexus) (parametersOf (w .request) (c .dataOut))))
 unfolding storeBy commandStore
 altered-store a s c w = rw (w .is, w .command)
 
@@ -44,7 +45,14 @@ module _ (a : Action) (s : Store) (c : Call) (w : AsksFor (Alters a) c) (e : IsG
   parameters = parametersOf (w .request) (c .dataOut)
 
   pub altered : after step s c .unit .rights ≡ acted a (s .unit .rights) (c .nexus) parameters
+  unfolding enacted
   altered = ap (λ (t : Store). t .unit .rights) (done-after s c e ∙ altered-store a s c w)
+
+  -- and what waits for each
+  pub altered-attentions : after step s c .unit .attentions
+      ≡ notified a (s .unit .rights) (acted a (s .unit .rights) (c .nexus) parameters) (c .nexus) (s .unit .attentions)
+  unfolding enacted
+  altered-attentions = ap (λ (t : Store). t .unit .attentions) (done-after s c e ∙ altered-store a s c w)
 
   pub altered-decision : first (decisionRows a (s .unit .rights) (c .nexus) parameters) ≡ Good
   unfolding alterRows refuses

@@ -16,7 +16,7 @@ use Rattle.rights.specs.Attentions.{refusalOf}
 use Rattle.forms.specs.Forms.{entryOf, Asked, askedOf}
 use Rattle.store.specs.Store.{Store, Call, usable, waiting}
 use Rattle.store.specs.Step.{due, ownRows, answerTo}
-use Rattle.store.proofs.Parts.{callAnswer, storeAnswer, codeAnswer, lengthAnswer, attentionAnswer, fieldAnswer, guardAnswer, ownAnswer, parts, from-attention, from-fields, passes-usable, undue-passes, due-stops}
+use Rattle.store.proofs.Parts.{Righted, callAnswer, storeAnswer, codeAnswer, lengthAnswer, attentionAnswer, fieldAnswer, guardAnswer, ownAnswer, parts, from-attention, from-fields, passes-usable, undue-passes, due-stops}
 use Rattle.store.proofs.Rows.{next-is, none, call-each, store-each, code-each, length-each, attention-each, guard-each, field-each, own-each, says}
 
 -- ---- a command's own tests never answer 2
@@ -225,3 +225,7 @@ due-answers s c p t =
     attention-decides s c p
     ∙ ap (λ (a : Answer). next a (next (fieldAnswer c) (later s c))) (due-stops (s .unit) (c .nexus) (c .cdb) t)
     ∙ next-refuses (Refused (refusalOf (waiting (s .unit) (c .nexus)))) _ tt
+
+-- a call that is right by itself comes so far on a usable store
+pub righted-reaches : (s : Store) (c : Call) → T (usable s) → Righted (s .format) c → AtAttention s c
+righted-reaches s c u r = record { call = r .call; store = u; code = r .code; length = r .length }

@@ -1,7 +1,7 @@
 -- The demands at the C interface: one call of `ridge_execute` is one step, so what holds of `step` over a history holds of a program in C.
 -- Assumes nothing.
 use mathlib.Core.Path.{_≡_, refl, sym, ap, ap₂, _∙_, subst}
-use mathlib.Core.Logic.{_≢_}
+use mathlib.Core.Logic.{_≢_, _⊎_}
 use mathlib.Core.Bool.{Bool, true, false, not, _&&_}
 use mathlib.Core.List.{List, [], _∷_, map}
 use Prim.Native.Nat.{ℕ}
@@ -10,7 +10,7 @@ use lib.ListN.{length, drop}
 use Rattle.fields.specs.Bytes.{zeros}
 use Rattle.fields.proofs.Tests.{both}
 use Rattle.answers.specs.declared.Refusal.{Refusal}
-use Rattle.answers.specs.declared.Refusal.the-variants.{NotListed, InvalidField, OutOfRange, ListLength, ListField, NoPlace, OtherType, NoRoom}
+use Rattle.answers.specs.declared.Refusal.the-variants.{NotListed, InvalidField, OutOfRange, ListLength, ListField, NoPlace, OtherType, NoRoom, RegistrationsPreempted, ReservationsPreempted, ReservationsReleased}
 use Rattle.answers.specs.declared.Answer.{Answer}
 use Rattle.answers.specs.declared.Answer.the-variants.{Good, Refused, Conflict, Unusable, Short}
 use Rattle.answers.specs.Answers.{codesOf, numberOf}
@@ -19,7 +19,7 @@ use Rattle.answers.specs.Order.{ifGoodBy, refuses}
 use Rattle.pool.specs.Valid.{capacityOk, slotsOk}
 use Rattle.rights.specs.Rights.{isOneOf}
 use Rattle.store.specs.declared.Unit.{Unit}
-use Rattle.store.specs.Store.{Store, Call, usable}
+use Rattle.store.specs.Store.{Store, Call, usable, withUnit, relieved}
 use Rattle.store.specs.Fresh.{freshUnit, freshStore}
 use Rattle.store.specs.Step.{step}
 use Rattle.store.proofs.StoreLaws.{store-is, format-kept}
@@ -31,9 +31,10 @@ use Rattle.demands.specs.SenseRead.{senseLong}
 use Rattle.demands.specs.AtC.{toldBy, storeIn, onward, program, begun, toldOf, Faithful, Kept, Demand1AtC, Demand3AtC}
 use Rattle.demands.proofs.Usable.{usable-stays, owners-stay, medium-stays}
 use Rattle.demands.proofs.Fresh.{fresh-made, fresh-refused}
-use Rattle.demands.proofs.Demand1.{step-listed, refused-store, refused-data, refused-none, sense-table, sense-past, data-past, data-length, sense-length}
+use Rattle.demands.proofs.Demand1.{step-listed, refused-store, refused-data, refused-none, sense-table, sense-past, data-past, data-length, sense-length, told-store}
 use Rattle.demands.proofs.Demand3 as D
 use Rattle.demands.proofs.SenseTold.{long-read}
+use native.Mathlib.Omega.{arith}
 
 -- ---- one call of C is one step
 
@@ -111,18 +112,29 @@ refused : (a : Answer) → numberOf a ≢ 0 → a ≢ Good
 unfolding numberOf
 refused a n e = n (ap numberOf e)
 
-pub refusal-keeps : (s : Store) (c : Call) → executed s c .answer ≢ 0 → Kept s c (executed s c)
+kept-by : (u : Unit) (s : Store) (c : Call) → step s c .seen .answer ≢ Good → after step s c ≡ withUnit s u → Kept u s c (executed s c)
 unfolding executed leftBy after
-refusal-keeps s c n =
+kept-by u s c d k = record {
+  unit = ap (λ (t : Store). t .unit) k;
+  owners = ap (λ (t : Store). t .pool .owners) k;
+  medium = ap (λ (t : Store). t .pool .medium) k;
+  dataIn = refused-data s c d;
+  returned = refused-none s c d;
+}
+
+pub refusal-keeps : (s : Store) (c : Call) → executed s c .answer ≢ 0 → executed s c .answer ≢ 13 → Kept (s .unit) s c (executed s c)
+unfolding executed leftBy
+refusal-keeps s c n m =
     let d = refused (step s c .seen .answer) n in
-    let k = refused-store s c d in
-    record {
-      unit = ap (λ (t : Store). t .unit) k;
-      owners = ap (λ (t : Store). t .pool .owners) k;
-      medium = ap (λ (t : Store). t .pool .medium) k;
-      dataIn = refused-data s c d;
-      returned = refused-none s c d;
-    }
+    kept-by (s .unit) s c d (refused-store s c d m)
+
+pub attention-keeps : (s : Store) (c : Call) → executed s c .answer ≡ 13 → Kept (relieved (s .unit) (c .nexus)) s c (executed s c)
+unfolding executed leftBy
+attention-keeps s c e =
+    kept-by (relieved (s .unit) (c .nexus)) s c (refused (step s c .seen .answer) (λ z. zero-thirteen (sym z ∙ e))) (told-store s c e)
+  where
+    zero-thirteen : _≡_ {A = ℕ} 0 13 → ⊥
+    zero-thirteen z = omega arith
 
 onward-usable : (s : Store) (e : Event) → T (usable s) → T (usable (onward s e))
 unfolding onward
@@ -148,6 +160,9 @@ refusal-numbered (ListField at top n) = tt
 refusal-numbered NoPlace = tt
 refusal-numbered OtherType = tt
 refusal-numbered (NoRoom address) = tt
+refusal-numbered RegistrationsPreempted = tt
+refusal-numbered ReservationsPreempted = tt
+refusal-numbered ReservationsReleased = tt
 
 sense-left : (format : ℕ) (a : Answer) (l : List ℕ) → T (isOneOf (numberOf a) (0 ∷ 10 ∷ 11 ∷ 12 ∷ [])) → senseAfter format a l ≡ l
 unfolding numberOf senseAfter
@@ -158,7 +173,7 @@ sense-left format Unusable l t = refl
 sense-left format Short l t = refl
 
 -- and a number with sense tells that it is written, up to what its byte 7 says
-past-long : (a : Answer) (s : Store) (c : Call) → step s c .seen .answer ≡ a → T (isOneOf (numberOf a) (1 ∷ 2 ∷ 3 ∷ 4 ∷ 5 ∷ 6 ∷ 7 ∷ 8 ∷ []))
+past-long : (a : Answer) (s : Store) (c : Call) → step s c .seen .answer ≡ a → T (isOneOf (numberOf a) (1 ∷ 2 ∷ 3 ∷ 4 ∷ 5 ∷ 6 ∷ 7 ∷ 8 ∷ 13 ∷ []))
     → drop (senseLong (step s c .seen .sense)) (step s c .seen .sense) ≡ drop (senseLong (step s c .seen .sense)) (c .sense)
 unfolding numberOf isOneOf
 past-long Good s c e t = absurd t
@@ -174,6 +189,7 @@ unfolding executed leftBy after
 demand-1-at-c = record {
   listed = step-listed;
   refusal-keeps = refusal-keeps;
+  attention-keeps = attention-keeps;
   usable-ever = usable-ever;
   sense-kept = λ s c t. sense-table s c ∙ sense-left (s .format) (step s c .seen .answer) (c .sense) t;
   sense-past = λ s c t. past-long (step s c .seen .answer) s c refl t;
@@ -195,4 +211,9 @@ secrecy-at-c =
 
 pub demand-3-at-c : Demand3AtC
 unfolding storeIn executed leftBy after
-demand-3-at-c = record { secrecy = secrecy-at-c; still = λ s c o h. one-store s c ∙ D.shut-out-still s c o h; out-pool = D.out-pool }
+demand-3-at-c = record {
+  secrecy = secrecy-at-c;
+  still = λ s c o h w. one-store s c ∙ D.shut-out-still s c o h w;
+  own-alone = λ s c w. subst (λ (x : Store). (x ≡ s) ⊎ (x ≡ withUnit s (relieved (s .unit) (c .nexus)))) (sym (one-store s c)) (D.own-alone s c w);
+  out-pool = D.out-pool;
+}

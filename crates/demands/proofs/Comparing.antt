@@ -109,8 +109,12 @@ unfolding sameUnit
 unit-equal u v t =
     let c = eqb (u .capacity) (v .capacity) in
     let r = sameRights (u .rights) (v .rights) in
-    ap₂ (λ (x : ℕ) (y : Rights). record { capacity = x; rights = y }) (eqb→eq (u .capacity) (v .capacity) (and-l c r t))
-    (rights-equal (u .rights) (v .rights) (and-r c r t))
+    let a = same (u .attentions) (v .attentions) in
+    let rest = and-r c (r && a) t in
+    ap₂ (λ (x : ℕ) (y : Rights). record { capacity = x; rights = y; attentions = u .attentions })
+    (eqb→eq (u .capacity) (v .capacity) (and-l c (r && a) t)) (rights-equal (u .rights) (v .rights) (and-l r a rest))
+    ∙ ap (λ (z : List ℕ). record { capacity = v .capacity; rights = v .rights; attentions = z })
+    (same-equal (u .attentions) (v .attentions) (and-r r a rest))
 
 pool-equal : (p q : Pool) → T (samePool p q) → p ≡ q
 unfolding samePool

@@ -31,12 +31,12 @@ use Rattle.store.specs.Store.{Store, Call, usable}
 use Rattle.store.specs.Conflict.{conflict, passes, stops, ruled}
 use Rattle.store.specs.Move.{readRows, writeRows, sameRows, unmapRows, statusRows, moveRows}
 use Rattle.store.specs.Tell.{tellRows}
-use Rattle.store.specs.Step.{callRows, storeRows, guardRows, commandRows, ownRows, step, answerTo}
+use Rattle.store.specs.Step.{callRows, storeRows, guardRows, commandRows, ownRows, step, answerTo, attentionRows}
 use Rattle.store.proofs.ConflictLaws.{holdsBy, ruleBy, table-rule, telling-passes}
-use Rattle.store.proofs.Parts.{callAnswer, storeAnswer, codeAnswer, lengthAnswer, fieldAnswer, guardAnswer, parts}
+use Rattle.store.proofs.Parts.{callAnswer, storeAnswer, codeAnswer, lengthAnswer, fieldAnswer, guardAnswer, parts, attentionAnswer}
 use Rattle.store.proofs.StoreLaws.{step-answer}
 use Rattle.demands.specs.History.{isOut}
-use Rattle.demands.specs.Contents.{AsksFor, Asks, byItself}
+use Rattle.demands.specs.Contents.{AsksFor, Asks, byItself, Quiet}
 use Rattle.demands.specs.ConflictTable.{CellsDecide}
 use Rattle.demands.specs.Reservations.{holder, registrant, outsider, senderOf, sameSender, conflictTable, column, says, typeIn, stopped}
 use Rattle.demands.proofs.Usable.{usable-unit, unit-rights}
@@ -96,20 +96,20 @@ moves-none Unmap q capacity p c = tt
 moves-none Status q capacity p c = tt
 
 -- it is answered 10 exactly where the table has a conflict
-pub move-decided : (m : Move) (s : Store) (c : Call) → Asks m c → T (usable s) → byItself (s .format) c ≡ Good
+pub move-decided : (m : Move) (s : Store) (c : Call) → Asks m c → T (usable s) → byItself (s .format) c ≡ Good → Quiet s c
     → step s c .seen .answer ≡ Conflict ↔ T (conflict (s .unit .rights) (c .nexus) (Moves m))
-move-decided m s c a u g = (
+move-decided m s c a u g d = (
   λ e. test (conflict (s .unit .rights) (c .nexus) (Moves m)) (λ t. t)
       (λ n. absurd (none-ten _ (first-none _ (moves-none m (a .request) (s .unit .capacity) (s .pool) c))
-      (sym (own-answers m s c a u g (T-false _ n)) ∙ e))),
-  λ t. conflict-first m s c a u g (T-true _ t),
+      (sym (own-answers m s c a u g d (T-false _ n)) ∙ e))),
+  λ t. conflict-first m s c a u g d (T-true _ t),
 )
 
 -- and so where the lines of the types and senders have one
-pub conflict-table : (m : Move) (s : Store) (c : Call) → Asks m c → T (usable s) → byItself (s .format) c ≡ Good
+pub conflict-table : (m : Move) (s : Store) (c : Call) → Asks m c → T (usable s) → byItself (s .format) c ≡ Good → Quiet s c
     → step s c .seen .answer ≡ Conflict ↔ T (stopped s c m)
-conflict-table m s c a u g =
-    subst (λ (b : Bool). step s c .seen .answer ≡ Conflict ↔ T b) (rule-stopped m s c u) (move-decided m s c a u g)
+conflict-table m s c a u g d =
+    subst (λ (b : Bool). step s c .seen .answer ≡ Conflict ↔ T b) (rule-stopped m s c u) (move-decided m s c a u g d)
 
 -- ---- a command that tells
 
@@ -131,6 +131,10 @@ fixed-none : (s : Store) (c : Call) → T (noTen (callRows (s .format) c)) × T 
 unfolding callRows storeRows codeRows refusingBy notTen
 fixed-none s c = (tt, tt, tt)
 
+attention-none : (s : Store) (c : Call) → T (noTen (attentionRows (s .unit) (c .nexus) (c .cdb)))
+unfolding attentionRows refusingBy notTen
+attention-none s c = tt
+
 module _ (t : Tell) (s : Store) (c : Call) (w : AsksFor (Tells t) c) where
   guard-none : T (notTen (guardAnswer (s .unit) c))
   unfolding guardRows firstOf notTen
@@ -149,8 +153,9 @@ module _ (t : Tell) (s : Store) (c : Call) (w : AsksFor (Tells t) c) where
       (next-none (storeAnswer s) _ (first-none _ (fixed-none s c .1))
       (next-none (codeAnswer c) _ (first-none _ (fixed-none s c .2))
       (next-none (lengthAnswer c) _ (first-none _ (length-none (entryOf (c .cdb)) (c .cdb)))
+      (next-none (attentionAnswer (s .unit) c) _ (first-none _ (attention-none s c))
       (next-none (fieldAnswer c) _ (first-none _ (fields-none (entryOf (c .cdb)) (c .cdb)))
-      (next-none (guardAnswer (s .unit) c) _ guard-none (first-none _ own-none))))))))
+      (next-none (guardAnswer (s .unit) c) _ guard-none (first-none _ own-none)))))))))
       (sym (step-answer s c) ∙ e)
 
 -- ---- every command that is served
@@ -160,9 +165,9 @@ unfolding isOut altersIn isAlters
 altering-out a c w = alters-code (c .cdb) (rw (w .is, w .command) tt)
 
 pub cells-decide : CellsDecide step
-cells-decide (Tells t) s c w o u g = (
+cells-decide (Tells t) s c w o u g d = (
   λ e. absurd (tells-pass t s c w e),
   λ h. absurd (T-not (conflict (s .unit .rights) (c .nexus) (Tells t)) (false→T _ (telling-passes (s .unit .rights) (c .nexus) t)) h),
 )
-cells-decide (Moves m) s c w o u g = move-decided m s c w u g
-cells-decide (Alters a) s c w o u g = absurd (T-not (isOut c) o (altering-out a c w))
+cells-decide (Moves m) s c w o u g d = move-decided m s c w u g d
+cells-decide (Alters a) s c w o u g d = absurd (T-not (isOut c) o (altering-out a c w))

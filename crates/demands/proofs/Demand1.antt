@@ -60,11 +60,11 @@ step-listed s c = answer-listed (step s c .seen .answer)
 
 -- ---- what is told of what waited
 
-attention-number : (s : Store) (c : Call) → T (isAttention (answerTo s c)) → T (eqb (numberOf (step s c .seen .answer)) 13)
+pub attention-number : (s : Store) (c : Call) → T (isAttention (answerTo s c)) → T (eqb (numberOf (step s c .seen .answer)) 13)
 unfolding isAttention
 attention-number s c t = rw (step-answer s c) t
 
-number-attention : (s : Store) (c : Call) → numberOf (step s c .seen .answer) ≡ 13 → T (isAttention (answerTo s c))
+pub number-attention : (s : Store) (c : Call) → numberOf (step s c .seen .answer) ≡ 13 → T (isAttention (answerTo s c))
 unfolding isAttention
 number-attention s c e = rw (← step-answer s c, e) tt
 
@@ -81,7 +81,7 @@ unfolding after refusedUnit
 told-store s c e =
     let t = number-attention s c e in
     step-store s c ∙ leaves-refused (answerTo s c) _ (refusedStore s c) (thirteen-refuses (answerTo s c) t)
-    ∙ ap (λ (b : Bool). withUnit s (cond b (relieved (s .unit) (c .nexus)) (s .unit))) (T-true _ t)
+    ∙ ap (λ (b : Bool). withUnit s (cond b (relieved (s .unit) (c .nexus)) (s .unit))) (T-true (isAttention (answerTo s c)) t)
 
 -- ---- a refusal
 

@@ -1,6 +1,6 @@
 -- Demand 2, proved of `step`; a promise of it admits no second outcome; and a build that meets it meets the other two.
 -- Assumes nothing.
-use mathlib.Core.Path.{_≡_, refl, sym, ap, _∙_, subst, fun-ext}
+use mathlib.Core.Path.{_≡_, refl, sym, _∙_, subst, fun-ext}
 use mathlib.Core.List.{List}
 use Prim.Native.Nat.{ℕ}
 use Rattle.store.specs.Store.{Store, Call, Result}
@@ -10,12 +10,11 @@ use Rattle.reply.specs.declared.Outcome.{Outcome}
 use Rattle.reply.specs.Contract.{left}
 use Rattle.commands.proofs.Only.{execute-only}
 use Rattle.demands.specs.History.{Build, machine}
-use Rattle.demands.specs.Generation.{generation}
 use Rattle.demands.specs.Demands.{Demand1, Demand2, Demand3, Secrecy}
 use Rattle.demands.specs.Contents.{plain}
 use Rattle.demands.proofs.CasesPass.{cases-pass}
-use Rattle.demands.proofs.Generation.{generation-rises, generation-stays}
-use Rattle.demands.proofs.Demand1.{refused-store, demand-1}
+use Rattle.demands.proofs.Generation.{generation-rises, generation-stays, generation-refused}
+use Rattle.demands.proofs.Demand1.{demand-1}
 use Rattle.demands.proofs.Demand3.{secrecy, demand-3}
 
 pub demand-2 : Demand2 step
@@ -24,7 +23,7 @@ demand-2 = record {
   bench = cases-pass;
   generation-rises = generation-rises;
   generation-stays = generation-stays;
-  generation-refused = λ s c d. ap generation (refused-store s c d);
+  generation-refused = generation-refused;
 }
 
 -- ---- "show that no second outcome satisfies it"

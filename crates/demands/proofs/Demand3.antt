@@ -1,15 +1,17 @@
 -- Demand 3, proved of `step`: what a nexus learns that is shut out from reading.
 -- Assumes nothing.
 use mathlib.Core.Path.{_≡_, refl, sym, ap, ap₂, _∙_}
+use mathlib.Core.Logic.{_⊎_, inl, inr}
 use mathlib.Core.Bool.{Bool, true, false, not, _||_}
 use mathlib.Core.List.{List, [], _∷_, map}
 use Prim.Native.Nat.{ℕ}
-use lib.Dec.{T, eqb, ltb, lt→ltb, nleb→lt}
+use lib.Dec.{T, T-not, eqb, eqb→eq, ltb, lt→ltb, nleb→lt}
 use Rattle.fields.specs.Bytes.{zeros}
 use Rattle.fields.specs.Field.{byte}
-use Rattle.fields.proofs.Tests.{and-r, or-other, nor-l, nand-rest, not-not-intro, not-map, test, true→T, false→T, T-true}
+use Rattle.fields.proofs.Tests.{and-l, and-r, or-r, or-other, nor-l, nor-r, nand-rest, not-not, not-not-intro, not-map, test, true→T, false→T, T-true}
 use Rattle.answers.specs.declared.Answer.{Answer}
 use Rattle.answers.specs.declared.Answer.the-variants.{Good, Refused, Conflict, Unusable, Short}
+use Rattle.answers.specs.Answers.{numberOf, isAttention}
 use Rattle.answers.specs.Order.{first, ifGoodBy, refuses}
 use Rattle.answers.specs.Sense.{fixed, senseAfter}
 use Rattle.answers.proofs.OrderLaws.{row-stop, not-good}
@@ -21,16 +23,22 @@ use Rattle.forms.specs.declared.Command.the-variants.{Tells, Moves, Alters}
 use Rattle.forms.specs.Forms.{Asked, nothing, asks, askedOf}
 use Rattle.forms.proofs.Table.{isMoves, movesIn, altersIn, alters-code, moves-code}
 use Rattle.store.specs.declared.Unit.{Unit}
-use Rattle.store.specs.Store.{Store, Call, usable, seenOf}
+use Rattle.store.specs.Store.{Store, Call, withUnit, usable, waiting, relieved, refusedUnit, seenOf}
 use Rattle.store.specs.Conflict.{conflict, shutOut}
-use Rattle.store.specs.Step.{callRows, guardRows, ownRows, answerBy, dataBy, storeBy, step, answerTo}
+use Rattle.store.specs.Step.{callRows, isInquiry, due, guardRows, ownRows, answerBy, dataBy, storeBy, step, answerTo}
 use Rattle.store.proofs.ConflictLaws.{shut-moves}
-use Rattle.store.proofs.Parts.{guardAnswer, guard-refused, answers-alike}
+use Rattle.store.proofs.Parts.{attentionAnswer, guardAnswer, passes-undue, moves-due, good-cleared, guard-refused, attention-refused, answers-alike}
+use Rattle.store.proofs.Rows.{says}
 use Rattle.store.proofs.StoreLaws.{guard-stops, step-answer, step-seen, step-store, step-ways, leaves-both, unit-rows, unit-data, unit-by, format-kept, unit-left, pool-left, store-left}
-use Rattle.demands.specs.History.{Event, call, Machine, after, afterEvent, machine, isOut, isShutOut, isSomebody, isKept, kept, add, watchedOn, heardOn, replay, watched, heard}
+use Rattle.demands.specs.History.{Event, call, Machine, after, afterEvent, machine, isOut, isShutOut, isSomebody, isWaitedFor, isKept, kept, add, watchedOn, heardOn, replay, watched, heard}
 use Rattle.demands.specs.Demands.{Demand3, Secrecy}
 use Rattle.demands.specs.Contents.{plain}
+use Rattle.demands.proofs.Answering.{thirteen-due}
 use Rattle.demands.proofs.Usable.{usable-format, usable-unit, usable-of, usable-stays}
+
+pub never : {X : Type 0} (b : Bool) → T b → T (not b) → X
+never true t n = absurd n
+never false t n = absurd t
 
 -- ---- a refusal tells nothing
 
@@ -70,7 +78,7 @@ unfolding isOut
 out-moves-not c o =
     not-map (not (eqb (byte 0 (c .cdb)) 0x5F)) (movesIn (askedOf (c .cdb))) (moves-code (c .cdb)) (not-not-intro (eqb (byte 0 (c .cdb)) 0x5F) o)
 
-other-alters-not : (c : Call) → T (not (isOut c)) → T (not (altersIn (askedOf (c .cdb))))
+pub other-alters-not : (c : Call) → T (not (isOut c)) → T (not (altersIn (askedOf (c .cdb))))
 unfolding isOut
 other-alters-not c o = not-map (eqb (byte 0 (c .cdb)) 0x5F) (altersIn (askedOf (c .cdb))) (alters-code (c .cdb)) o
 
@@ -97,18 +105,49 @@ module _ (c : Call) (n : T (not (isSomebody c))) where
   nobody-learns s t = nobody-seen s ∙ sym (nobody-seen t)
 
   pub nobody-still : (s : Store) → after step s c ≡ s
-  unfolding after refuses
-  nobody-still s = step-ways (λ x. x ≡ s) s c (λ g. not-good (answerTo s c) (rw (nobody-answer s) tt) g) refl
+  unfolding after refuses isAttention numberOf
+  nobody-still s = step-ways (λ x. x ≡ s) s c (λ g. not-good (answerTo s c) (rw (nobody-answer s) tt) g) refl (λ t. absurd (rw (nobody-answer s) at t))
+
+-- ---- who has something waiting
+
+-- a call that returns what waits has something waiting
+pub told-waited : (s : Store) (c : Call) → T (isAttention (answerTo s c)) → T (isWaitedFor (s .unit) c)
+unfolding isWaitedFor isAttention says due
+told-waited s c t = and-l (not (eqb (waiting (s .unit) (c .nexus)) 0)) (not (isInquiry (c .cdb))) (thirteen-due s c t)
+
+pub unwaited : {X : Type 0} (s : Store) (c : Call) → T (not (isWaitedFor (s .unit) c)) → T (isAttention (answerTo s c)) → X
+unwaited s c n t = never (isWaitedFor (s .unit) c) (told-waited s c t) n
+
+-- where something waits a command on the blocks is refused, before the store is looked at
+waited-due : (s : Store) (c : Call) → T (movesIn (askedOf (c .cdb))) → T (isWaitedFor (s .unit) c) → T (due (s .unit) (c .nexus) (c .cdb))
+unfolding isWaitedFor
+waited-due s c m w = rw (moves-due (s .unit) (c .nexus) (c .cdb) m) w
 
 -- ---- one call
 
+-- may a call's sender not read, or does something wait for it
+unfoldable pub isHeld : Store → Call → Bool
+isHeld s c = isShutOut s c || isWaitedFor (s .unit) c
+
+held-refused : (s : Store) (c : Call) → T (movesIn (askedOf (c .cdb))) → T (isHeld s c) → T (refuses (answerTo s c))
+unfolding isHeld
+held-refused s c m h =
+    test (isShutOut s c) (λ k. shut-refused s c m k) (λ n. attention-refused s c (waited-due s c m (or-other (isShutOut s c) (isWaitedFor (s .unit) c) n h)))
+
+held-stops : (s : Store) (c : Call) → T (movesIn (askedOf (c .cdb))) → T (isHeld s c) → attentionAnswer (s .unit) c ≡ Good → guardAnswer (s .unit) c ≡ Good → ⊥
+unfolding isHeld
+held-stops s c m h w g =
+    test (isShutOut s c) (λ k. not-good (guardAnswer (s .unit) c) (shut-guard s c m k) g)
+    (λ n. T-not (due (s .unit) (c .nexus) (c .cdb)) (passes-undue (s .unit) (c .nexus) (c .cdb) w)
+    (waited-due s c m (or-other (isShutOut s c) (isWaitedFor (s .unit) c) n h)))
+
 -- a call whose command moves nothing, or is refused, gives the same on two stores that agree on the format and the unit's record
 module _ (s t : Store) (c : Call) (u : T (usable s)) (v : T (usable t)) (f : s .format ≡ t .format) (e : s .unit ≡ t .unit)
-    (h : T (movesIn (askedOf (c .cdb))) → T (isShutOut s c)) where
-  own-same : guardAnswer (s .unit) c ≡ Good → first (ownRows (askedOf (c .cdb)) s c) ≡ first (ownRows (askedOf (c .cdb)) t c)
-  own-same g =
+    (h : T (movesIn (askedOf (c .cdb))) → T (isHeld s c)) where
+  own-same : attentionAnswer (s .unit) c ≡ Good → guardAnswer (s .unit) c ≡ Good → first (ownRows (askedOf (c .cdb)) s c) ≡ first (ownRows (askedOf (c .cdb)) t c)
+  own-same w g =
       test (movesIn (askedOf (c .cdb)))
-      (λ m. not-good (guardAnswer (s .unit) c) (shut-guard s c m (h m)) g)
+      (λ m. absurd (held-stops s c m (h m) w g))
       (λ n. ap first (unit-rows (askedOf (c .cdb)) s t c n e))
 
   same-answer : answerTo s c ≡ answerTo t c
@@ -117,7 +156,7 @@ module _ (s t : Store) (c : Call) (u : T (usable s)) (v : T (usable t)) (f : s .
   seen-same : seenOf (s .format) (answerTo s c) (dataBy (askedOf (c .cdb)) s) c ≡ seenOf (s .format) (answerTo s c) (dataBy (askedOf (c .cdb)) t) c
   seen-same =
       test (movesIn (askedOf (c .cdb)))
-      (λ m. seen-refused (s .format) (answerTo s c) _ _ c (shut-refused s c m (h m)))
+      (λ m. seen-refused (s .format) (answerTo s c) _ _ c (held-refused s c m (h m)))
       (λ n. ap (λ (bs : List ℕ). seenOf (s .format) (answerTo s c) bs c) (unit-data (askedOf (c .cdb)) s t n e))
 
   pub alike-seen : step s c .seen ≡ step t c .seen
@@ -129,15 +168,12 @@ module _ (s t : Store) (c : Call) (u : T (usable s)) (v : T (usable t)) (f : s .
   unfolding after
   alike-unit =
       rw (step-store s c, step-store t c, same-answer)
-      (leaves-both (λ x y. x .unit ≡ y .unit) (answerTo t c) (storeBy (askedOf (c .cdb)) s c) s (storeBy (askedOf (c .cdb)) t c) t (unit-by (askedOf (c .cdb)) s t c e) e)
-
-pub never : {X : Type 0} (b : Bool) → T b → T (not b) → X
-never true t n = absurd n
-never false t n = absurd t
+      (leaves-both (λ x y. x .unit ≡ y .unit) (answerTo t c) (storeBy (askedOf (c .cdb)) s c) _ (storeBy (askedOf (c .cdb)) t c) _ (unit-by (askedOf (c .cdb)) s t c e)
+      (ap (refusedUnit (answerTo t c) (c .nexus)) e))
 
 -- a reservation-out call acts on the unit alone, by the call alone
 module _ (s t : Store) (c : Call) (u : T (usable s)) (v : T (usable t)) (f : s .format ≡ t .format) (e : s .unit ≡ t .unit) (o : T (isOut c)) where
-  out-shut : T (movesIn (askedOf (c .cdb))) → T (isShutOut s c)
+  out-shut : T (movesIn (askedOf (c .cdb))) → T (isHeld s c)
   out-shut m = never (movesIn (askedOf (c .cdb))) m (out-moves-not c o)
 
   pub out-seen : step s c .seen ≡ step t c .seen
@@ -146,26 +182,40 @@ module _ (s t : Store) (c : Call) (u : T (usable s)) (v : T (usable t)) (f : s .
   pub out-unit : after step s c .unit ≡ after step t c .unit
   out-unit = alike-unit s t c u v f e out-shut
 
--- any call but a reservation-out leaves the unit
-pub other-unit : (s : Store) (c : Call) → T (not (isOut c)) → after step s c .unit ≡ s .unit
+-- so does a call that returns what waits
+module _ (s t : Store) (c : Call) (u : T (usable s)) (v : T (usable t)) (f : s .format ≡ t .format) (e : s .unit ≡ t .unit) (w : T (isWaitedFor (s .unit) c)) where
+  waited-held : T (movesIn (askedOf (c .cdb))) → T (isHeld s c)
+  unfolding isHeld
+  waited-held m = or-r (isShutOut s c) (isWaitedFor (s .unit) c) w
+
+  pub waited-unit : after step s c .unit ≡ after step t c .unit
+  waited-unit = alike-unit s t c u v f e waited-held
+
+-- any call but a reservation-out leaves the unit, unless it returns what waits
+pub other-unit : (s : Store) (c : Call) → T (not (isOut c)) → T (not (isAttention (answerTo s c))) → after step s c .unit ≡ s .unit
 unfolding after
-other-unit s c o = step-ways (λ x. x .unit ≡ s .unit) s c (λ g. unit-left (askedOf (c .cdb)) s c (other-alters-not c o)) refl
+other-unit s c o n =
+    step-ways (λ x. x .unit ≡ s .unit) s c (λ g. unit-left (askedOf (c .cdb)) s c (other-alters-not c o)) refl (λ t. never (isAttention (answerTo s c)) t n)
 
 -- so does any call that is not kept
 pub unkept-unit : (s : Store) (c : Call) → T (not (kept s c)) → after step s c .unit ≡ s .unit
 unfolding isKept isShutOut
 unkept-unit s c t =
     test (isSomebody c)
-    (λ k. other-unit s c (nor-l (isOut c) (isShutOut s c) (nand-rest (isSomebody c) (isOut c || isShutOut s c) k t)))
+    (λ k. let rest = nand-rest (isSomebody c) (isOut c || (isShutOut s c || isWaitedFor (s .unit) c)) k t in
+    other-unit s c (nor-l (isOut c) (isShutOut s c || isWaitedFor (s .unit) c) rest)
+    (not-map (isWaitedFor (s .unit) c) (isAttention (answerTo s c)) (told-waited s c)
+    (nor-r (isShutOut s c) (isWaitedFor (s .unit) c) (nor-r (isOut c) (isShutOut s c || isWaitedFor (s .unit) c) rest))))
     (λ n. ap (λ (x : Store). x .unit) (nobody-still c n s))
 
 -- ---- a kept call
 
--- a kept call that moves something is one by a nexus that is shut out
-kept-shut : (s : Store) (c : Call) → T (kept s c) → T (movesIn (askedOf (c .cdb))) → T (isShutOut s c)
-unfolding isKept isShutOut isOut
+-- a kept call that moves something is one by a nexus that is shut out, or for which something waits
+kept-shut : (s : Store) (c : Call) → T (kept s c) → T (movesIn (askedOf (c .cdb))) → T (isHeld s c)
+unfolding isKept isShutOut isOut isHeld
 kept-shut s c t m =
-    or-other (eqb (byte 0 (c .cdb)) 0x5F) (isShutOut s c) (moves-code (c .cdb) m) (and-r (isSomebody c) (isOut c || isShutOut s c) t)
+    or-other (eqb (byte 0 (c .cdb)) 0x5F) (isShutOut s c || isWaitedFor (s .unit) c) (moves-code (c .cdb) m)
+    (and-r (isSomebody c) (isOut c || (isShutOut s c || isWaitedFor (s .unit) c)) t)
 
 -- so a kept call gives the same on two stores that agree on the format and the unit's record, and leaves them so
 module _ (s t : Store) (c : Call) (u : T (usable s)) (v : T (usable t)) (f : s .format ≡ t .format) (e : s .unit ≡ t .unit) (k : T (kept s c)) where
@@ -176,18 +226,39 @@ module _ (s t : Store) (c : Call) (u : T (usable s)) (v : T (usable t)) (f : s .
   kept-unit = alike-unit s t c u v f e (kept-shut s c k)
 
 -- "Apart from reservation-out calls, a shut-out call changes no stored thing"
-pub shut-out-still : (s : Store) (c : Call) → T (not (isOut c)) → T (isShutOut s c) → after step s c ≡ s
+pub shut-out-still : (s : Store) (c : Call) → T (not (isOut c)) → T (isShutOut s c) → T (not (isWaitedFor (s .unit) c)) → after step s c ≡ s
 unfolding after
-shut-out-still s c o h =
+shut-out-still s c o h w =
     step-ways (λ x. x ≡ s) s c
     (λ g. test (movesIn (askedOf (c .cdb)))
     (λ m. not-good (answerTo s c) (shut-refused s c m h) g)
     (λ n. store-left (askedOf (c .cdb)) s c (other-alters-not c o) n)) refl
+    (λ t. unwaited s c w t)
+
+-- Q-6: "such a call may change only its own": a GOOD one is INQUIRY, which changes nothing
+inquiry-out-not : (c : Call) → T (isInquiry (c .cdb)) → T (not (isOut c))
+unfolding isInquiry isOut
+inquiry-out-not c t = rw (eqb→eq (byte 0 (c .cdb)) 0x12 t) tt
+
+good-inquiry : (s : Store) (c : Call) → T (isWaitedFor (s .unit) c) → answerTo s c ≡ Good → T (isInquiry (c .cdb))
+unfolding isWaitedFor due
+good-inquiry s c w g =
+    not-not (isInquiry (c .cdb))
+    (nand-rest (not (eqb (waiting (s .unit) (c .nexus)) 0)) (not (isInquiry (c .cdb))) w (passes-undue (s .unit) (c .nexus) (c .cdb) (good-cleared s c g .attention)))
+
+pub own-alone : (s : Store) (c : Call) → T (isWaitedFor (s .unit) c) → (after step s c ≡ s) ⊎ (after step s c ≡ withUnit s (relieved (s .unit) (c .nexus)))
+unfolding after
+own-alone s c w =
+    step-ways (λ x. (x ≡ s) ⊎ (x ≡ withUnit s (relieved (s .unit) (c .nexus)))) s c
+    (λ g. test (movesIn (askedOf (c .cdb)))
+    (λ m. absurd (not-good (answerTo s c) (attention-refused s c (waited-due s c m w)) g))
+    (λ n. inl (store-left (askedOf (c .cdb)) s c (other-alters-not c (inquiry-out-not c (good-inquiry s c w g))) n)))
+    (inl refl) (λ _. inr refl)
 
 -- "a reservation-out call never changes a block or a mapping"
 pub out-pool : (s : Store) (c : Call) → T (isOut c) → after step s c .pool ≡ s .pool
 unfolding after
-out-pool s c o = step-ways (λ x. x .pool ≡ s .pool) s c (λ g. pool-left (askedOf (c .cdb)) s c (out-moves-not c o)) refl
+out-pool s c o = step-ways (λ x. x .pool ≡ s .pool) s c (λ g. pool-left (askedOf (c .cdb)) s c (out-moves-not c o)) refl (λ _. refl)
 
 -- ---- histories of any machine
 
@@ -272,4 +343,4 @@ unfolding watched heard
 secret s t cs ds u v f e w = secrecy .secret s t (map call cs) (map call ds) u v f e w
 
 pub demand-3 : Demand3 step
-demand-3 = record { secret = secret; still = shut-out-still; out-pool = out-pool }
+demand-3 = record { secret = secret; still = shut-out-still; own-alone = own-alone; out-pool = out-pool }

@@ -35,7 +35,7 @@ use Rattle.store.specs.Move.{readRows, writeRows, sameRows, unmapRows, statusRo
 use Rattle.store.specs.Tell.{tellRows}
 use Rattle.store.specs.Alter.{alterRows}
 use Rattle.store.specs.Step.{callRows, guardRows, commandRows, ownRows, step}
-use Rattle.store.proofs.Parts.{callAnswer, guardAnswer, ownAnswer, from-fields}
+use Rattle.store.proofs.Parts.{callAnswer, guardAnswer, ownAnswer, from-fields, undue-passes}
 use Rattle.store.proofs.StoreLaws.{step-answer}
 use Rattle.demands.specs.Contents.{AsksFor, Asks, longOf, control}
 use Rattle.demands.specs.Limits.{Heard, Fielded}
@@ -180,6 +180,7 @@ module _ {k : Command} (s : Store) (c : Call) (a : AsksFor k c) (f : Fielded s c
       step-answer s c
       ∙ from-fields s c (heard-call s c (f .heard) (not-empty a (f .long))) (f .heard .store)
       (ap first (code-rows a) ∙ row-pass notListed _ _ refl ∙ row-end) (ap first (length-rows a (f .long)) ∙ row-pass Unusable _ _ refl ∙ row-end)
+      (undue-passes (s .unit) (c .nexus) (c .cdb) (f .quiet))
       ∙ ap (λ (v : Answer). next v (later s c)) (ap first rows ∙ row-pass (invalidField (nacaBits c)) _ _ (f .naca))
 
   pub refused-exactly : numberOf (step s c .seen .answer) ≡ 2 ↔ T (x || (y || z))

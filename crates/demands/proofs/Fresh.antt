@@ -21,6 +21,7 @@ use Rattle.store.specs.Step.{step}
 use Rattle.store.proofs.Parts.{unusable-answer}
 use Rattle.store.proofs.StoreLaws.{step-answer}
 use Rattle.store.specs.Fresh.{freshUnit, freshAnswer, fresh, freshStore}
+use Rattle.rights.proofs.AttentionLaws.{none-ok}
 use Rattle.demands.proofs.Usable.{unit-of, usable-of}
 
 -- ---- making one
@@ -66,7 +67,7 @@ pub fresh-usable : (capacity format slots : ℕ) (medium : List ℕ) → T (capa
     → length medium ≡ 512 * slots → T (usable (freshStore capacity format slots medium))
 unfolding freshStore freshUnit
 fresh-usable capacity format slots medium b f s e =
-    usable-of (freshStore capacity format slots medium) f (unit-of (freshUnit capacity) b no-rights-ok)
+    usable-of (freshStore capacity format slots medium) f (unit-of (freshUnit capacity) b no-rights-ok none-ok)
     (poolOk-of capacity _ (rw length-zeros s) (rw length-zeros e) (mapOk-zeros capacity slots))
 
 -- ---- on no other

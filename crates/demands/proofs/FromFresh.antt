@@ -1,13 +1,13 @@
 -- From a fresh store: the last GOOD write or unmapping of a block decides what it reads, and the reservation-out calls alone decide the rights.
 -- Assumes nothing.
 use mathlib.Core.Path.{_≡_, refl, sym, ap, ap₂, _∙_}
-use mathlib.Core.Bool.{Bool, true, false, cond}
+use mathlib.Core.Bool.{Bool, true, false, cond, _||_}
 use mathlib.Core.List.{List, [], _∷_, _++_}
 use Prim.Native.Nat.{ℕ, zero, suc, _-_, _*_}
 use native.Mathlib.Omega.{arith}
 use lib.Dec.{T}
 use lib.ListN.{length}
-use Rattle.fields.proofs.Tests.{by-test, true→T, false→T, T-true}
+use Rattle.fields.proofs.Tests.{by-test, true→T, false→T, T-true, or-other, nor-l, nor-r, test}
 use Rattle.answers.specs.declared.Answer.the-variants.{Good}
 use Rattle.answers.proofs.OrderLaws.{if-good, if-refused, good-cases}
 use Rattle.answers.specs.Sense.{formatOk}
@@ -30,11 +30,13 @@ use Rattle.demands.specs.WriteSame.{isNdob, sent, covers}
 use Rattle.demands.specs.FromFresh.{Answered, answered, outs, blockOf, readsAfter, readsBy, reads, recalledFrom, recalled, recalledBlocks, FromFresh}
 use Rattle.demands.proofs.Usable.{usable-stays, format-after}
 use Rattle.demands.proofs.Fresh.{fresh-usable}
-use Rattle.demands.proofs.Demand3.{other-unit, out-unit, event-usable, plain-usable, plain-unit, plain-format}
-use Rattle.demands.proofs.Moving.{done-after, refused-after, good-any}
+use Rattle.demands.proofs.Demand3.{other-unit, out-unit, event-usable, plain-usable, plain-unit, plain-format, told-waited, waited-unit}
+use Rattle.demands.proofs.Moving.{done-after, refused-pool, good-any}
 use Rattle.demands.proofs.Transfers.{read-seen, write-contents, write-keeps, fresh-contents}
 use Rattle.demands.proofs.Unmaps.{in-range, range-in, unmap-contents}
 use Rattle.demands.proofs.WriteSame.{same-reads}
+use Rattle.answers.specs.Answers.{isAttention}
+use Rattle.store.proofs.StoreLaws.{step-answer}
 
 -- ---- one call
 
@@ -78,7 +80,7 @@ step-reads s c b =
     good-cases (step s c .seen .answer)
     (λ g. good-reads s c g b (askedOf (c .cdb)) refl (ap (λ (x : Store). readBlock (x .pool) b) (sym (done-after s c g)))
     ∙ sym (if-good (step s c .seen .answer) _ _ g))
-    (λ r. ap (λ (x : Store). readBlock (x .pool) b) (refused-after s c r) ∙ sym (if-refused (step s c .seen .answer) _ _ r))
+    (λ r. ap (λ (p : Pool). readBlock p b) (refused-pool s c r) ∙ sym (if-refused (step s c .seen .answer) _ _ r))
 
 -- ---- any history, from any store
 
@@ -95,23 +97,35 @@ history-reads s (call c ∷ es) b =
     history-reads (after step s c) es b
     ∙ ap (λ (old : List ℕ). recalledFrom old (answered (after step s c) es) b) (step-reads s c b)
 
--- two stores that agree on the format and the unit's record, of which one has the reservation-out calls alone
+-- two stores that agree on the format and the unit's record, of which one has the reservation-out calls and those that are told what waits alone
 pub unit-by-outs : (s t : Store) (es : List Event) → T (usable s) → T (usable t) → s .format ≡ t .format → s .unit ≡ t .unit
-    → afterAll (machine step) s es .unit ≡ afterAll (machine step) t (outs es) .unit
-unfolding afterAll afterEvent outs add
+    → afterAll (machine step) s es .unit ≡ afterAll (machine step) t (outs (answered s es)) .unit
+unfolding afterAll afterEvent answered outs add
 unit-by-outs s t [] u v f e = e
 unit-by-outs s t (call c ∷ es) u v f e =
-    go (isOut c) refl
+    go (isOut c || isAttention (step s c .seen .answer)) refl
     (λ w d. unit-by-outs (after step s c) (after step t c) es (usable-stays s c u) w (format-after s c ∙ f ∙ sym (format-after t c)) d)
     (λ d. unit-by-outs (after step s c) t es (usable-stays s c u) v (format-after s c ∙ f) d)
   where
-    go : (b : Bool) → isOut c ≡ b
+    rest : List Event
+    rest = outs (answered (after step s c) es)
+
+    told : Bool
+    told = isAttention (step s c .seen .answer)
+
+    same : T (isOut c || told) → after step s c .unit ≡ after step t c .unit
+    same h =
+        test (isOut c) (λ o. out-unit s t c u v f e o)
+        (λ n. waited-unit s t c u v f e (told-waited s c (rw (step-answer s c) at (or-other (isOut c) told n h))))
+
+    go : (b : Bool) → (isOut c || told) ≡ b
         → (T (usable (after step t c)) → after step s c .unit ≡ after step t c .unit
-        → afterAll (machine step) (after step s c) es .unit ≡ afterAll (machine step) (after step t c) (outs es) .unit)
-        → (after step s c .unit ≡ t .unit → afterAll (machine step) (after step s c) es .unit ≡ afterAll (machine step) t (outs es) .unit)
-        → afterAll (machine step) (after step s c) es .unit ≡ afterAll (machine step) t (add b (call c) (outs es)) .unit
-    go true h x y = x (usable-stays t c v) (out-unit s t c u v f e (true→T _ h))
-    go false h x y = y (other-unit s c (false→T _ h) ∙ e)
+        → afterAll (machine step) (after step s c) es .unit ≡ afterAll (machine step) (after step t c) rest .unit)
+        → (after step s c .unit ≡ t .unit → afterAll (machine step) (after step s c) es .unit ≡ afterAll (machine step) t rest .unit)
+        → afterAll (machine step) (after step s c) es .unit ≡ afterAll (machine step) t (add b (call c) rest) .unit
+    go true h x y = x (usable-stays t c v) (same (true→T _ h))
+    go false h x y =
+        y (other-unit s c (nor-l (isOut c) told (false→T _ h)) (rw (step-answer s c) at (nor-r (isOut c) told (false→T _ h))) ∙ e)
 
 -- ---- from a fresh store
 

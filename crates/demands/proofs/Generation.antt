@@ -1,6 +1,7 @@
 -- The generation at the level of a call: it rises exactly at a GOOD of actions 0, 3, 4, 6, with 01's one exception.
 -- Assumes nothing.
 use mathlib.Core.Path.{_≡_, refl, ap, _∙_}
+use mathlib.Core.Logic.{_≢_}
 use mathlib.Core.Bool.{Bool, true, false, not, _&&_, _||_, cond}
 use mathlib.Core.List.{List}
 use Prim.Native.Nat.{ℕ, zero, suc, _+_, _%_, _^_}
@@ -9,8 +10,9 @@ use borrow.Author.Tests.{ne-eqb, leb-true}
 use lib.Dec.{T, eqb, eqb→eq, leb}
 use Rattle.fields.specs.Field.{field, byte}
 use Rattle.fields.specs.Bits.{numberIn}
-use Rattle.fields.proofs.Tests.{and-l, test}
+use Rattle.fields.proofs.Tests.{and-l, test, by-equal}
 use Rattle.answers.specs.declared.Answer.the-variants.{Good}
+use Rattle.answers.specs.Answers.{numberOf}
 use Rattle.rights.specs.declared.Rights.{Rights}
 use Rattle.rights.specs.declared.Parameters.{Parameters}
 use Rattle.rights.specs.Places.{registered}
@@ -24,13 +26,14 @@ use Rattle.forms.specs.declared.Request.{Request}
 use Rattle.forms.specs.Forms.{takes, lines, listed, lookup, action, entryFor, entryOf, requestBy, Asked, nothing, asks, askedBy, askedIn, askedOf}
 use Rattle.forms.proofs.Table.{taken, passed, lookup-passes}
 use Rattle.store.specs.declared.Unit.{Unit}
-use Rattle.store.specs.Store.{Store, Call}
+use Rattle.store.specs.Store.{Store, Call, enacted, relieved}
 use Rattle.store.specs.Alter.{parametersOf}
 use Rattle.store.specs.Step.{commandStore, storeBy, step}
-use Rattle.store.proofs.StoreLaws.{step-ways}
+use Rattle.store.proofs.StoreLaws.{step-ways, unit-left}
 use Rattle.demands.specs.History.{after, isOut}
 use Rattle.demands.specs.Generation.{generation, serviceKey, actionRaises, raising}
-use Rattle.demands.proofs.Demand3.{other-unit}
+use Rattle.demands.proofs.Demand1.{told-store, refused-store}
+use Rattle.demands.proofs.Demand3.{other-alters-not}
 use Rattle.demands.proofs.Moving.{done-after}
 
 -- ---- what is done raises the generation by its kind
@@ -43,7 +46,7 @@ raisesAs (Alters a) r n o = raises a r n o
 command-generation : (k : Command) (q : Request) (s : Store) (c : Call)
     → generation (commandStore k q s c)
     ≡ cond (raisesAs k (s .unit .rights) (c .nexus) (parametersOf q (c .dataOut))) (nextGeneration (generation s)) (generation s)
-unfolding commandStore generation raisesAs
+unfolding commandStore generation raisesAs enacted
 command-generation (Tells t) q s c = refl
 command-generation (Moves m) q s c = refl
 command-generation (Alters a) q s c = acted-generation a (s .unit .rights) (c .nexus) (parametersOf q (c .dataOut))
@@ -129,12 +132,19 @@ generation-rises s c e t = ap generation (done-after s c e) ∙ out-generation s
     chosen true x y t = refl
     chosen false x y t = absurd t
 
+pub generation-refused : (s : Store) (c : Call) → step s c .seen .answer ≢ Good → generation (after step s c) ≡ generation s
+unfolding generation relieved
+generation-refused s c d =
+    by-equal (numberOf (step s c .seen .answer)) 13 (λ _. generation (after step s c) ≡ generation s)
+    (λ e. ap generation (told-store s c e)) (λ n. ap generation (refused-store s c d n))
+
 pub generation-stays : (s : Store) (c : Call) → T (not (raising s c)) → generation (after step s c) ≡ generation s
-unfolding after generation
+unfolding after generation relieved
 generation-stays s c t =
     test (isOut c)
-    (λ h. step-ways (λ x. generation x ≡ generation s) s c (λ g. out-generation s c h ∙ other (raising s c) _ _ t) refl)
-    (λ h. ap (λ (u : Unit). u .rights .generation) (other-unit s c h))
+    (λ h. step-ways (λ x. generation x ≡ generation s) s c (λ g. out-generation s c h ∙ other (raising s c) _ _ t) refl (λ _. refl))
+    (λ h. step-ways (λ x. generation x ≡ generation s) s c
+    (λ _. ap (λ (u : Unit). u .rights .generation) (unit-left (askedOf (c .cdb)) s c (other-alters-not c h))) refl (λ _. refl))
   where
     other : (b : Bool) (x y : ℕ) → T (not b) → cond b x y ≡ y
     other true x y t = absurd t

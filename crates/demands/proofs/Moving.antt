@@ -43,6 +43,12 @@ done-after s c e = step-store s c ∙ leaves-good (answerTo s c) _ (refusedStore
 pub refused-after : (s : Store) (c : Call) → T (refuses (step s c .seen .answer)) → numberOf (step s c .seen .answer) ≢ 13 → after step s c ≡ s
 refused-after s c t = refused-store s c (not-good (step s c .seen .answer) t)
 
+-- and then too it leaves the blocks and their map
+pub refused-pool : (s : Store) (c : Call) → T (refuses (step s c .seen .answer)) → after step s c .pool ≡ s .pool
+refused-pool s c t =
+    by-equal (numberOf (step s c .seen .answer)) 13 (λ _. after step s c .pool ≡ s .pool)
+    (λ e. ap (λ (x : Store). x .pool) (told-store s c e)) (λ n. ap (λ (x : Store). x .pool) (refused-after s c t n))
+
 -- the store once the caller was told what waited for it
 abbrev pub toldStore : Store → Call → Store
 toldStore s c = withUnit s (relieved (s .unit) (c .nexus))

@@ -1,18 +1,18 @@
 -- Where the answers point: 2 names a field of the CDB that is there, 5 one of the list that is there, and no other answer names one.
 -- Assumes nothing.
 use mathlib.Core.Path.{_≡_, refl, sym, subst}
-use mathlib.Core.Bool.{Bool, true, false, not}
+use mathlib.Core.Bool.{Bool, true, false, not, cond}
 use mathlib.Core.List.{List, _∷_}
 use Prim.Native.Nat.{ℕ, _-_, _≤_}
 use native.Mathlib.Nat.{min-le-right}
 use native.Mathlib.Omega.{arith}
 use borrow.Author.Tests.{ltb-true, ltb-false, eqb-true, not-false}
-use lib.Dec.{T, T-not, ltb}
+use lib.Dec.{T, T-not, ltb, eqb}
 use lib.ListN.{length}
 use Rattle.fields.specs.Field.{byte}
 use Rattle.fields.specs.Bits.{Bits, firstByte, topBit, bitCount, numberIn}
 use Rattle.answers.specs.declared.Refusal.{Refusal}
-use Rattle.answers.specs.declared.Refusal.the-variants.{NotListed, InvalidField, OutOfRange, ListLength, ListField, NoPlace, OtherType, NoRoom}
+use Rattle.answers.specs.declared.Refusal.the-variants.{NotListed, InvalidField, OutOfRange, ListLength, ListField, NoPlace, OtherType, NoRoom, RegistrationsPreempted, ReservationsPreempted, ReservationsReleased}
 use Rattle.answers.specs.declared.Answer.{Answer}
 use Rattle.answers.specs.declared.Answer.the-variants.{Good, Refused, Unusable, Short}
 use Rattle.answers.specs.Answers.{codesOf, numberOf, invalidField, listField, listLength}
@@ -38,9 +38,10 @@ use Rattle.store.specs.Tell.{tellRows}
 use Rattle.store.specs.Move.{readRows, writeRows, sameRows, unmapRows, statusRows, moveRows}
 use Rattle.store.specs.Alter.{alterRows}
 use Rattle.store.specs.Step.{commandRows, ownRows, answerTo}
-use Rattle.store.proofs.Parts.{callAnswer, storeAnswer, codeAnswer, lengthAnswer, fieldAnswer, guardAnswer, parts}
+use Rattle.store.proofs.Parts.{callAnswer, storeAnswer, codeAnswer, lengthAnswer, fieldAnswer, guardAnswer, parts, attentionAnswer}
 use Rattle.demands.specs.Pointed.{Place, unplaced, placed, placeOf, placeIn}
 use Rattle.store.proofs.Rows.{Each, first-is, next-is, none, call-each, store-each, code-each, length-each, attention-each, guard-each, field-each, own-each, fits, namedBytes, says}
+use Rattle.rights.specs.Attentions.{refusalOf}
 
 -- ---- places
 
@@ -88,19 +89,32 @@ refusal-unplaced (ListField at top n) t u = absurd u
 refusal-unplaced NoPlace t u = refl
 refusal-unplaced OtherType t u = refl
 refusal-unplaced (NoRoom address) t u = refl
+refusal-unplaced RegistrationsPreempted t u = refl
+refusal-unplaced ReservationsPreempted t u = refl
+refusal-unplaced ReservationsReleased t u = refl
+
+-- nor does one that returns what waits
+told-unplaced : (x : ℕ) → placeOf (refusalOf x) ≡ unplaced
+unfolding refusalOf placeOf
+told-unplaced x = go (eqb x 1) (eqb x 2)
+  where
+    go : (b d : Bool) → placeOf (cond b RegistrationsPreempted (cond d ReservationsPreempted ReservationsReleased)) ≡ unplaced
+    go true d = refl
+    go false true = refl
+    go false false = refl
 
 module _ (x : Asked) (s : Store) (c : Call) where
   pub own-named : T (says 5 (first (ownRows x s c))) → (b : Bits) × (first (ownRows x s c) ≡ listField b)
   unfolding says numberOf codesOf
   own-named =
       first-is (λ a. T (says 5 a) → (b : Bits) × (a ≡ listField b)) (ownRows x s c) (λ h. absurd h)
-      (own-each _ (record { short = λ h. absurd h; conflict = λ h. absurd h; nowhere = λ r t u h. absurd (T-not (says 5 (Refused r)) u h); named = λ b t h. (b, refl) }) x s c)
+      (own-each _ (record { short = λ h. absurd h; conflict = λ h. absurd h; nowhere = λ r t u _ h. absurd (T-not (says 5 (Refused r)) u h); named = λ b t h. (b, refl) }) x s c)
 
   pub own-fits : T (placeFits namedBytes (placeIn (first (ownRows x s c))))
   unfolding placeFits placeIn placeOf
   own-fits =
       first-is (λ a. T (placeFits namedBytes (placeIn a))) (ownRows x s c) tt
-      (own-each _ (record { short = tt; conflict = tt; nowhere = λ r t u. subst (λ (p : Place). T (placeFits namedBytes p)) (sym (refusal-unplaced r t u)) tt; named = λ b t. t }) x s c)
+      (own-each _ (record { short = tt; conflict = tt; nowhere = λ r t u _. subst (λ (p : Place). T (placeFits namedBytes p)) (sym (refusal-unplaced r t u)) tt; named = λ b t. t }) x s c)
 
 -- every other answer names none
 pub nowhere-else : (s : Store) (c : Call) → T (not (says 2 (answerTo s c))) → T (not (says 5 (answerTo s c))) → placeIn (answerTo s c) ≡ unplaced
@@ -111,9 +125,10 @@ nowhere-else s c =
     (next-is Q (storeAnswer s) _ (first-is Q _ (λ t u. refl) (store-each Q s (λ t u. refl)))
     (next-is Q (codeAnswer c) _ (first-is Q _ (λ t u. refl) (code-each Q (entryOf (c .cdb)) (λ t u. refl)))
     (next-is Q (lengthAnswer c) _ (first-is Q _ (λ t u. refl) (length-each Q (entryOf (c .cdb)) (c .cdb) (λ t u. refl)))
+    (next-is Q (attentionAnswer (s .unit) c) _ (first-is Q _ (λ t u. refl) (attention-each Q (s .unit) (c .nexus) (c .cdb) (λ x t u. told-unplaced x)))
     (next-is Q (fieldAnswer c) _ (first-is Q _ (λ t u. refl) (field-each Q (entryOf (c .cdb)) (c .cdb) (λ b t u. absurd t)))
     (next-is Q (guardAnswer (s .unit) c) _ (first-is Q _ (λ t u. refl) (guard-each Q (askedOf (c .cdb)) (s .unit .rights) (c .nexus) (λ t u. refl)))
-    (first-is Q _ (λ t u. refl) (own-each Q (record { short = λ t u. refl; conflict = λ t u. refl; nowhere = λ r _ _ t u. refusal-unplaced r t u; named = λ b _ t u. absurd u }) (askedOf (c .cdb)) s c))))))))
+    (first-is Q _ (λ t u. refl) (own-each Q (record { short = λ t u. refl; conflict = λ t u. refl; nowhere = λ r _ _ _ t u. refusal-unplaced r t u; named = λ b _ t u. absurd u }) (askedOf (c .cdb)) s c)))))))))
   where
     Q : Answer → Type 0
     Q a = T (not (says 2 a)) → T (not (says 5 a)) → placeIn a ≡ unplaced

@@ -14,7 +14,7 @@ use Rattle.fields.specs.Field.{byte, bit, field}
 use Rattle.fields.specs.Bits.{Bits, firstByte, topBit, bitCount, AgreeIn}
 use Rattle.fields.proofs.Tests.{and-l, and-r, true→T, false→T}
 use Rattle.answers.specs.declared.Refusal.{Refusal}
-use Rattle.answers.specs.declared.Refusal.the-variants.{NotListed, InvalidField, OutOfRange, ListLength, ListField, NoPlace, OtherType, NoRoom}
+use Rattle.answers.specs.declared.Refusal.the-variants.{NotListed, InvalidField, OutOfRange, ListLength, ListField, NoPlace, OtherType, NoRoom, RegistrationsPreempted, ReservationsPreempted, ReservationsReleased}
 use Rattle.answers.specs.declared.Answer.{Answer}
 use Rattle.answers.specs.declared.Answer.the-variants.{Good, Refused, Unusable}
 use Rattle.answers.specs.Answers.{codesOf, numberOf, notListed, invalidField, listField}
@@ -29,10 +29,10 @@ use Rattle.forms.specs.Tests.{isUnlisted, codeRows, lengthRows, fieldRows}
 use Rattle.forms.proofs.Refusing.{field-refusing}
 use Rattle.store.specs.Store.{Store, Call, usable}
 use Rattle.store.specs.Step.{callRows, ownRows, step, answerTo}
-use Rattle.store.proofs.Parts.{callAnswer, storeAnswer, codeAnswer, lengthAnswer, fieldAnswer, guardAnswer, ownAnswer, parts, from-fields, cleared, itself-cleared}
+use Rattle.store.proofs.Parts.{callAnswer, storeAnswer, codeAnswer, lengthAnswer, fieldAnswer, guardAnswer, ownAnswer, parts, from-fields, cleared, itself-cleared, attentionAnswer, undue-passes, entry-due, passes-undue}
 use Rattle.store.proofs.StoreLaws.{step-answer}
 use Rattle.commands.proofs.StageLaws.{long-within}
-use Rattle.demands.specs.Contents.{byItself}
+use Rattle.demands.specs.Contents.{byItself, Quiet}
 use Rattle.demands.specs.Limits.{Heard}
 use Rattle.demands.specs.Pointed.{PointsAt, withCdb, withList, AreBytes, LiesIn, Pointed, Alike, Place, unplaced, placed, placeOf, placeIn}
 use Rattle.demands.specs.SenseRead.{specific, sksv, commandData, bpv, bitPointer, fieldPointer}
@@ -61,6 +61,9 @@ unmarked (ListField at top n) e = absurd (true≢false (ap isPlaced e))
 unmarked NoPlace e = (refl, refl)
 unmarked OtherType e = (refl, refl)
 unmarked (NoRoom address) e = (refl, refl)
+unmarked RegistrationsPreempted e = (refl, refl)
+unmarked ReservationsPreempted e = (refl, refl)
+unmarked ReservationsReleased e = (refl, refl)
 
 -- three bytes of which the first is 0, and the number in the others
 nothing-there : (bs : List ℕ) → byte 0 bs ≡ 0 → field 1 2 bs ≡ 0 → field 0 3 bs ≡ 0
@@ -131,7 +134,7 @@ module _ (s : Store) (c : Call) where
 
     cdb-fits : T (fits (length (c .cdb)) (firstByte b) (topBit b) (bitCount b))
     unfolding placeFits placeIn placeOf
-    cdb-fits = subst (λ (a : Answer). T (placeFits (length (c .cdb)) (placeIn a))) field-is (field-fits (c .cdb) (two-reaches s c says-two .length))
+    cdb-fits = subst (λ (a : Answer). T (placeFits (length (c .cdb)) (placeIn a))) field-is (field-fits (c .cdb) (two-reaches s c says-two .reached .length))
 
     cdb-there : LiesIn b (length (c .cdb))
     cdb-there = fits-lies _ _ _ _ cdb-fits
@@ -206,12 +209,19 @@ unfolding callRows
 call-same format c cdb long = rw long
 
 also-reaches : (s : Store) (c : Call) (cdb : List ℕ) → length cdb ≡ length (c .cdb) → entryOf (c .cdb) ≡ entryOf cdb → AtFields s c → AtFields s (withCdb c cdb)
-also-reaches s c cdb long same f = record {
-  call = ap first (sym (call-same (s .format) c cdb long)) ∙ f .call;
-  store = f .store;
-  code = ap (λ (x : Entry). first (codeRows x)) (sym same) ∙ f .code;
-  length = ap first (sym (length-same (entryOf cdb) (c .cdb) cdb long)) ∙ ap (λ (x : Entry). first (lengthRows x (c .cdb))) (sym same) ∙ f .length;
-}
+also-reaches s c cdb long same f =
+    let p = f .reached in
+    record {
+      reached = record {
+        call = ap first (sym (call-same (s .format) c cdb long)) ∙ p .call;
+        store = p .store;
+        code = ap (λ (x : Entry). first (codeRows x)) (sym same) ∙ p .code;
+        length = ap first (sym (length-same (entryOf cdb) (c .cdb) cdb long)) ∙ ap (λ (x : Entry). first (lengthRows x (c .cdb))) (sym same) ∙ p .length;
+      };
+      attention =
+          undue-passes (s .unit) (c .nexus) cdb
+          (subst (λ (b : Bool). T (not b)) (entry-due (s .unit) (c .nexus) (c .cdb) cdb same) (passes-undue (s .unit) (c .nexus) (c .cdb) (f .attention)));
+    }
 
 cdb-stays : (s : Store) (c : Call) (b : Bits) → step s c .seen .answer ≡ invalidField b
     → (cdb : List ℕ) → AreBytes (c .cdb) → AreBytes cdb → length cdb ≡ length (c .cdb)
@@ -230,7 +240,7 @@ own-refused : (s : Store) (c : Call) → T (refuses (ownAnswer s c)) → T (refu
 own-refused s c t =
     rw (parts s c)
     (next-refused (callAnswer (s .format) c) _ (next-refused (storeAnswer s) _ (next-refused (codeAnswer c) _ (next-refused (lengthAnswer c) _
-    (next-refused (fieldAnswer c) _ (next-refused (guardAnswer (s .unit) c) _ t))))))
+    (next-refused (attentionAnswer (s .unit) c) _ (next-refused (fieldAnswer c) _ (next-refused (guardAnswer (s .unit) c) _ t)))))))
 
 own-stays : (x : Asked) (s : Store) (c : Call) (b : Bits) → first (ownRows x s c) ≡ listField b
     → (list : List ℕ) → AreBytes (c .dataOut) → AreBytes list → AgreeIn b (c .dataOut) list
@@ -259,7 +269,8 @@ nowhere s c x e d f =
 
 -- ---- what is wrong is told
 
-module _ (s : Store) (c : Call) (h : Heard s c) (code : Code) (e : entryOf (c .cdb) ≡ Listed code) (l : length (c .cdb) ≡ code .long) where
+module _ (s : Store) (c : Call) (h : Heard s c) (code : Code) (e : entryOf (c .cdb) ≡ Listed code) (l : length (c .cdb) ≡ code .long)
+    (d : Quiet s c) where
   code-passes : codeAnswer c ≡ Good
   unfolding codeRows isUnlisted
   code-passes = rw e (row-pass notListed _ _ refl ∙ row-end)
@@ -274,14 +285,14 @@ module _ (s : Store) (c : Call) (h : Heard s c) (code : Code) (e : entryOf (c .c
   cdb-due : (b : Bits) → fieldAnswer c ≡ invalidField b → step s c .seen .answer ≡ invalidField b
   unfolding refuses
   cdb-due b w =
-      step-answer s c ∙ from-fields s c (heard-call s c h some-byte) (h .store) code-passes length-passes
+      step-answer s c ∙ from-fields s c (heard-call s c h some-byte) (h .store) code-passes length-passes (undue-passes (s .unit) (c .nexus) (c .cdb) d)
       ∙ ap (λ (a : Answer). next a (later s c)) w ∙ next-refuses (invalidField b) (later s c) tt
 
-list-due : (s : Store) (c : Call) → T (usable s) → byItself (s .format) c ≡ Good → guardAnswer (s .unit) c ≡ Good → (b : Bits) → ownAnswer s c ≡ listField b
+list-due : (s : Store) (c : Call) → T (usable s) → byItself (s .format) c ≡ Good → Quiet s c → guardAnswer (s .unit) c ≡ Good → (b : Bits) → ownAnswer s c ≡ listField b
     → step s c .seen .answer ≡ listField b
 unfolding byItself
-list-due s c u right free b w =
-    step-answer s c ∙ cleared s c (itself-cleared s c u right) ∙ next-after (guardAnswer (s .unit) c) (ownAnswer s c) free ∙ w
+list-due s c u right d free b w =
+    step-answer s c ∙ cleared s c (itself-cleared s c u d right) ∙ next-after (guardAnswer (s .unit) c) (ownAnswer s c) free ∙ w
 
 pub pointed : Pointed step
 pointed = record {

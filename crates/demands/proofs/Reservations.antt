@@ -7,7 +7,7 @@ use lib.Dec.{T, eqb, eqb→eq}
 use Rattle.fields.specs.Bits.{numberIn}
 use Rattle.fields.proofs.Tests.{both, or-r, not-map, nand-rest, not-not, test, by-test, false→T}
 use Rattle.answers.specs.declared.Answer.the-variants.{Good, Conflict}
-use Rattle.answers.specs.Answers.{listField, noPlace, otherType}
+use Rattle.answers.specs.Answers.{listField, noPlace, otherType, numberOf}
 use Rattle.answers.specs.Order.{first, refuses}
 use Rattle.answers.proofs.OrderLaws.{row-fails}
 use Rattle.rights.specs.declared.Rights.{Rights}
@@ -25,7 +25,7 @@ use Rattle.forms.specs.declared.Command.{Command}
 use Rattle.forms.specs.declared.Command.the-variants.{Tells, Moves, Alters}
 use Rattle.forms.specs.declared.Request.{Request}
 use Rattle.forms.specs.Forms.{Asked, nothing, asks, askedOf}
-use Rattle.store.specs.Store.{Store, Call, withRights, withUnit}
+use Rattle.store.specs.Store.{Store, Call, withRights, withUnit, relieved, enacted}
 use Rattle.store.specs.Alter.{parametersOf}
 use Rattle.store.specs.Tell.{told}
 use Rattle.store.specs.Step.{commandStore, storeBy, step}
@@ -37,6 +37,8 @@ use Rattle.demands.proofs.Moving.{done-after, after-ways}
 use Rattle.demands.proofs.Telling.{told-seen}
 use Rattle.demands.proofs.Conflicts.{conflict-table, tells-pass}
 use Rattle.demands.proofs.Altering.{altered-store, altered, altered-own, altered-sender, altered-ok, altered-type}
+use Rattle.store.proofs.StoreLaws.{enacted-still}
+use mathlib.Core.Logic.{_≢_}
 
 -- ---- CLEAR
 
@@ -210,13 +212,14 @@ module _ (s : Store) (c : Call) (w : AsksFor (Alters Release) c) where
       ap (λ (r : Rights). r .kind) (altered Release s c w e)
       ∙ by-test (holds (s .unit .rights) (c .nexus)) (λ b. T b → cond b (ended (s .unit .rights)) (s .unit .rights) .kind ≡ 0) (λ _ _. refl) (λ _ h. absurd h) t
 
-  pub release-nothing : T (not (isHolder s (c .nexus))) → after step s c ≡ s
+  pub release-nothing : T (not (isHolder s (c .nexus))) → numberOf (step s c .seen .answer) ≢ 13 → after step s c ≡ s
   unfolding isHolder acted releasing
-  release-nothing t =
+  release-nothing t n =
       after-ways s c (λ x. x ≡ s)
       (λ e. done-after s c e ∙ altered-store Release s c w
       ∙ by-test (holds (s .unit .rights) (c .nexus))
-      (λ b. T (not b) → withUnit s (withRights (s .unit) (cond b (ended (s .unit .rights)) (s .unit .rights))) ≡ s) (λ _ h. absurd h) (λ _ _. refl) t) refl
+      (λ b. T (not b) → withUnit s (enacted Release (c .nexus) (s .unit) (cond b (ended (s .unit .rights)) (s .unit .rights))) ≡ s) (λ _ h. absurd h)
+      (λ _ _. ap (withUnit s) (enacted-still Release (c .nexus) (s .unit))) t) refl (λ e. absurd (n e))
 
 -- ---- REGISTER
 
@@ -284,7 +287,7 @@ action-others Preempt r n m o t = absurd t
 action-others RegisterIgnoring r n m o t = registering-others r n (o .service) m t
 
 command-others : (k : Command) (q : Request) (s : Store) (c : Call) (m : ℕ) → T (not (commandTouches k (c .nexus) m)) → keyIn (commandStore k q s c) m ≡ keyIn s m
-unfolding commandTouches commandStore keyIn
+unfolding commandTouches commandStore keyIn enacted
 command-others (Tells t) q s c m h = refl
 command-others (Moves x) q s c m h = refl
 command-others (Alters a) q s c m h = action-others a (s .unit .rights) (c .nexus) m (parametersOf q (c .dataOut)) h
@@ -295,9 +298,9 @@ asked-others nothing s c m h = refl
 asked-others (asks q) s c m h = command-others (q .command) q s c m h
 
 pub registration-stays : (s : Store) (c : Call) (n : ℕ) → T (not (touches c n)) → keyIn (after step s c) n ≡ keyIn s n
-unfolding touches
+unfolding touches keyIn relieved
 registration-stays s c n h =
-    after-ways s c (λ x. keyIn x n ≡ keyIn s n) (λ e. ap (λ (x : Store). keyIn x n) (done-after s c e) ∙ asked-others (askedOf (c .cdb)) s c n h) refl
+    after-ways s c (λ x. keyIn x n ≡ keyIn s n) (λ e. ap (λ (x : Store). keyIn x n) (done-after s c e) ∙ asked-others (askedOf (c .cdb)) s c n h) refl (λ _. refl)
 
 -- ---- all of them
 

@@ -13,7 +13,7 @@ use lib.ListN.{length}
 use Rattle.fields.specs.Field.{byte, bit, field, bytes}
 use Rattle.fields.proofs.FieldLaws.{field-drop, field-bytes}
 use Rattle.answers.specs.declared.Refusal.{Refusal}
-use Rattle.answers.specs.declared.Refusal.the-variants.{NotListed, InvalidField, OutOfRange, ListLength, ListField, NoPlace, OtherType, NoRoom}
+use Rattle.answers.specs.declared.Refusal.the-variants.{NotListed, InvalidField, OutOfRange, ListLength, ListField, NoPlace, OtherType, NoRoom, RegistrationsPreempted, ReservationsPreempted, ReservationsReleased}
 use Rattle.answers.specs.declared.Codes.{Codes}
 use Rattle.answers.specs.declared.sense.Detail.{Detail}
 use Rattle.answers.specs.declared.sense.Detail.the-variants.{Nothing, Pointer, Address}
@@ -57,6 +57,9 @@ small-key (ListField at top n) = lit< tt
 small-key NoPlace = lit< tt
 small-key OtherType = lit< tt
 small-key (NoRoom address) = lit< tt
+small-key RegistrationsPreempted = lit< tt
+small-key ReservationsPreempted = lit< tt
+small-key ReservationsReleased = lit< tt
 
 module _ (k : Codes) (d : Detail) (rest : List ℕ) (small : k .key < 16) where
   fixed-reads : ReadsAs fixed k (fixedWith k d ++ rest)
@@ -166,6 +169,9 @@ address-is (ListField at top n) = refl
 address-is NoPlace = refl
 address-is OtherType = refl
 address-is (NoRoom address) = refl
+address-is RegistrationsPreempted = refl
+address-is ReservationsPreempted = refl
+address-is ReservationsReleased = refl
 
 -- the field of fixed format holds an address that fits
 field-exact : (k : Codes) (address : ℕ) (rest : List ℕ) → address ≤ 0xFFFF_FFFF → fixedField (fixedBytes 0xF0 k address 0 0 ++ rest) ≡ address

@@ -14,7 +14,7 @@ use Rattle.fields.specs.Bits.{numberIn}
 use Rattle.fields.proofs.Tests.{both, not-map, and-l}
 use Rattle.fields.proofs.FieldLaws.{field-below, below-64}
 use Rattle.answers.specs.declared.Refusal.{Refusal}
-use Rattle.answers.specs.declared.Refusal.the-variants.{NotListed, InvalidField, OutOfRange, ListLength, ListField, NoPlace, OtherType, NoRoom}
+use Rattle.answers.specs.declared.Refusal.the-variants.{NotListed, InvalidField, OutOfRange, ListLength, ListField, NoPlace, OtherType, NoRoom, RegistrationsPreempted, ReservationsPreempted, ReservationsReleased}
 use Rattle.answers.specs.declared.Answer.{Answer}
 use Rattle.answers.specs.declared.Answer.the-variants.{Good, Refused, Conflict, Unusable, Short}
 use Rattle.answers.specs.Answers.{codesOf, numberOf, outOfRange, noRoom, listLength, listField}
@@ -356,6 +356,9 @@ module _ (s : Store) (c : Call) (h : AreBytes (c .cdb)) (k : AreBytes (c .dataOu
   address-whole NoPlace e = refl
   address-whole OtherType e = refl
   address-whole (NoRoom address) e = subst Whole e (room-whole (ap numberOf e))
+  address-whole RegistrationsPreempted e = refl
+  address-whole ReservationsPreempted e = refl
+  address-whole ReservationsReleased e = refl
 
 -- ---- the address, read
 

@@ -9,7 +9,7 @@ use lib.Dec.{T, leb, ltb}
 use lib.ListN.{length, take}
 use Rattle.answers.specs.declared.Answer.{Answer}
 use Rattle.answers.specs.declared.Answer.the-variants.{Good, Short}
-use Rattle.answers.specs.Answers.{outOfRange, noRoom}
+use Rattle.answers.specs.Answers.{outOfRange, noRoom, numberOf}
 use Rattle.answers.specs.Order.{Row, _if_, first, firstOf}
 use Rattle.answers.proofs.OrderLaws.{good-cases}
 use Rattle.answers.specs.Sense.{formatOk}
@@ -28,7 +28,7 @@ use Rattle.forms.specs.declared.Request.{Request}
 use Rattle.forms.specs.Forms.{Asked, nothing, asks, askedOf, countIn, allocationIn}
 use Rattle.forms.proofs.Table.{isMoves}
 use Rattle.store.specs.declared.Unit.{Unit}
-use Rattle.store.specs.Store.{Store, Call, Seen, usable, seenOf}
+use Rattle.store.specs.Store.{Store, Call, Seen, usable, seenOf, relieved}
 use Rattle.store.specs.Same.{unmapsSame}
 use Rattle.store.specs.Move.{writeRows, sameRows, statusTold, statusRows, moveRows, moved, fetched}
 use Rattle.store.specs.Fresh.{freshStore}
@@ -44,6 +44,8 @@ use Rattle.demands.proofs.Fresh.{fresh-usable}
 use Rattle.demands.proofs.Moving.{done-after, refused-after}
 use Rattle.demands.proofs.Transfers.{fresh-contents}
 use Rattle.demands.proofs.Unmaps.{each-moved}
+use Rattle.fields.proofs.Tests.{by-equal}
+use Rattle.demands.proofs.Demand1.{told-store}
 
 pub same-self : (s : Store) → Same s s
 same-self s = record { format = refl; unit = refl; pool = alike-self (s .pool) }
@@ -114,7 +116,7 @@ pub same-seen : (s t : Store) (c : Call) → T (usable s) → T (usable t) → S
 same-seen s t c u v e =
     step-seen s c
     ∙ ap₂ (λ (a : Answer) (bs : List ℕ). seenOf (s .format) a bs c)
-    (answers-alike s t c u v (e .format) (e .unit) (λ g. own-same s t c e (askedOf (c .cdb)))) (data-same s t c e (askedOf (c .cdb)))
+    (answers-alike s t c u v (e .format) (e .unit) (λ w g. own-same s t c e (askedOf (c .cdb)))) (data-same s t c e (askedOf (c .cdb)))
     ∙ ap (λ (f : ℕ). seenOf f (answerTo t c) (dataBy (askedOf (c .cdb)) t) c) (e .format)
     ∙ sym (step-seen t c)
 
@@ -166,7 +168,10 @@ same-after s t c u v e =
     good-cases (step s c .seen .answer)
     (λ g. subst₂ Same (sym (done-after s c g)) (sym (done-after t c (sym q ∙ g)))
     (done-same s t c u v e (askedOf (c .cdb)) (good-own s c (sym (step-answer s c) ∙ g))))
-    (λ r. subst₂ Same (sym (refused-after s c r)) (sym (refused-after t c (rw q at r))) e)
+    (λ r. by-equal (numberOf (step s c .seen .answer)) 13 (λ _. Same (after step s c) (after step t c))
+    (λ k. subst₂ Same (sym (told-store s c k)) (sym (told-store t c (ap numberOf (sym q) ∙ k)))
+    (record { format = e .format; unit = ap (λ (x : Unit). relieved x (c .nexus)) (e .unit); pool = e .pool }))
+    (λ k. subst₂ Same (sym (refused-after s c r k)) (sym (refused-after t c (rw q at r) (λ z. k (ap numberOf q ∙ z)))) e))
 
 -- ---- for ever
 

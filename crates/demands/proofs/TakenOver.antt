@@ -24,22 +24,32 @@ use Rattle.rights.specs.Rights.{allHold, withPlaces, withReservation, withGener
 use Rattle.rights.specs.Actions.{stranger, keyWrong, crowded, actionRows, registering, reserving, acted}
 use Rattle.rights.proofs.Holders.{key-none, registered-key}
 use Rattle.pool.specs.Valid.{capacityOk, slotsOk}
-use Rattle.store.specs.Store.{Store, Call, usable}
+use Rattle.store.specs.Store.{Store, Call, usable, waiting}
 use Rattle.store.specs.Alter.{parametersOf}
 use Rattle.store.specs.Fresh.{freshUnit, freshStore}
 use Rattle.store.specs.Step.{step}
 use Rattle.demands.specs.History.{after, afterEvent, afterAll, seenAll}
 use Rattle.demands.specs.Generation.{generation, serviceKey}
-use Rattle.demands.specs.Contents.{IsGood, byItself}
+use Rattle.rights.specs.Attentions.{noAttentions}
+use Rattle.rights.specs.Notices.{notice}
+use Rattle.rights.proofs.AttentionLaws.{waiting-none, notified-none, unreserved-notice}
+use Rattle.store.proofs.Parts.{none-undue}
+use Rattle.demands.specs.Contents.{IsGood, byItself, Quiet}
 use Rattle.demands.specs.Reservations.{keyIn, isRegistered, typeIn}
 use Rattle.demands.specs.ZeroKey.{senderKey, Sends, gaveKey, zeroAnswer, Which, first-one, second-one, third-one, Story, events, answersOf, ending, TakenOver}
 use Rattle.demands.specs.Bench.{out}
 use Rattle.demands.proofs.Computing.{meaning}
 use Rattle.demands.proofs.Usable.{usable-stays, format-after}
 use Rattle.demands.proofs.Fresh.{fresh-usable}
-use Rattle.demands.proofs.Altering.{altered}
+use Rattle.demands.proofs.Altering.{altered, altered-attentions}
 use Rattle.demands.proofs.ZeroKey.{sent-answer, zero-answer, zero-registrations, zero-type, zero-holders, zero-rises, zero-keys, zero-reservation, zero-others}
 use Rattle.demands.proofs.Moving.{good-any}
+
+-- ---- nothing waits for anybody
+
+calm-quiet : (s : Store) (c : Call) → s .unit .attentions ≡ noAttentions → Quiet s c
+unfolding waiting
+calm-quiet s c e = none-undue (s .unit) (c .nexus) (c .cdb) (rw e (waiting-none (c .nexus)))
 
 -- ---- a registration more
 
@@ -49,12 +59,12 @@ no-room-needed true false true t = refl
 no-room-needed false b true t = refl
 no-room-needed a b false t = absurd t
 
-module _ (s : Store) (c : Call) (w : Sends (s .format) Register c) (u : T (usable s)) (own : senderKey c ≡ 0)
+module _ (s : Store) (c : Call) (w : Sends (s .format) Register c) (u : T (usable s)) (calm : s .unit .attentions ≡ noAttentions) (own : senderKey c ≡ 0)
     (new : T (not (registered (c .nexus) (s .unit .rights .places)))) (room : T (vacant (s .unit .rights .places))) where
   joins-good : IsGood s c
   unfolding keyWrong actionRows crowded parametersOf numberIn senderKey serviceKey
   joins-good =
-      sent-answer Register s c w u
+      sent-answer Register s c w u (calm-quiet s c calm)
       ∙ row-pass Conflict _ _ (ap not (eq-eqb _ _ (own ∙ sym (key-none (c .nexus) (s .unit .rights .places) new))))
       ∙ row-pass noPlace _ _
       (no-room-needed (not (registered (c .nexus) (s .unit .rights .places))) (not (eqb (serviceKey c) 0)) (vacant (s .unit .rights .places)) room) ∙ row-end
@@ -63,14 +73,22 @@ module _ (s : Store) (c : Call) (w : Sends (s .format) Register c) (u : T (usabl
   unfolding acted parametersOf numberIn serviceKey
   joins-rights = altered Register s c (w .asked) joins-good
 
+  joins-calm : s .unit .rights .kind ≡ 0 → after step s c .unit .attentions ≡ noAttentions
+  unfolding notice
+  joins-calm none =
+      altered-attentions Register s c (w .asked) joins-good
+      ∙ notified-none Register (s .unit .rights) _ (c .nexus) (λ m. unreserved-notice (s .unit .rights) _ m none) (s .unit .attentions)
+      ∙ calm
+
 -- ---- the rights on the way
 
 abbrev rightsOf : List Place → ℕ → ℕ → Rights
 rightsOf places generation kind = record { places = places; holder = 0; generation = generation; kind = kind }
 
--- a store that can be used, its format and its rights
+-- a store that can be used, its format and its rights; nothing waits
 record Stage (s : Store) (format : ℕ) (r : Rights) : Type 0 where
   pub store : T (usable s)
+  pub calm : s .unit .attentions ≡ noAttentions
   pub format-is : s .format ≡ format
   pub rights : s .unit .rights ≡ r
 
@@ -169,11 +187,12 @@ module _ {format : ℕ} (t : Story format) where
       → registered (t .nexus i) ps ≡ false → vacant ps ≡ true → registering (rightsOf ps g 0) (t .nexus i) (t .key i) ≡ rightsOf qs h 0
       → IsGood s (t .register i) × Stage (after step s (t .register i)) format (rightsOf qs h 0)
   joins i s ps qs g h x new room e = (
-    joins-good s (t .register i) sent (x .store) (t .registers-own i) is-new is-room,
+    joins-good s (t .register i) sent (x .store) (x .calm) (t .registers-own i) is-new is-room,
     record {
       store = usable-stays s (t .register i) (x .store);
+      calm = joins-calm s (t .register i) sent (x .store) (x .calm) (t .registers-own i) is-new is-room (ap (λ (r : Rights). r .kind) (x .rights));
       format-is = format-after s (t .register i) ∙ x .format-is;
-      rights = joins-rights s (t .register i) sent (x .store) (t .registers-own i) is-new is-room
+      rights = joins-rights s (t .register i) sent (x .store) (x .calm) (t .registers-own i) is-new is-room
           ∙ rw (x .rights, t .registers-key i, t .registers-from i) e;
     },
   )
@@ -187,7 +206,7 @@ module _ {format : ℕ} (t : Story format) where
       is-room : T (vacant (s .unit .rights .places))
       is-room = rw (x .rights, room) tt
 
-  module _ (s : Store) (u : T (usable s)) (f : s .format ≡ format) (empty : s .unit .rights ≡ noRights) where
+  module _ (s : Store) (u : T (usable s)) (f : s .format ≡ format) (empty : s .unit .rights ≡ noRights) (none : s .unit .attentions ≡ noAttentions) where
     abbrev after-first : Store
     after-first = after step s (t .register first-one)
 
@@ -202,7 +221,7 @@ module _ {format : ℕ} (t : Story format) where
 
     first-joins : IsGood s (t .register first-one) × Stage after-first format (rightsOf one-there 1 0)
     unfolding noRights registered isOf used vacant
-    first-joins = joins first-one s none-there one-there 0 1 (record { store = u; format-is = f; rights = empty }) refl refl joined-first
+    first-joins = joins first-one s none-there one-there 0 1 (record { store = u; calm = none; format-is = f; rights = empty }) refl refl joined-first
 
     second-joins : IsGood after-first (t .register second-one) × Stage after-second format (rightsOf two-there 2 0)
     second-joins = joins second-one after-first one-there two-there 1 2 (first-joins .1) second-new one-vacant joined-second
@@ -217,12 +236,19 @@ module _ {format : ℕ} (t : Story format) where
     good-reserve : IsGood after-third (t .reserve)
     unfolding keyWrong stranger actionRows parametersOf senderKey firstOf
     good-reserve =
-        sent-answer Reserve after-third (t .reserve) (subst (λ (v : ℕ). Sends v Reserve (t .reserve)) (sym (third-joins .1 .format-is)) (t .reserves)) (third-joins .1 .store)
+        sent-answer Reserve after-third (t .reserve) (subst (λ (v : ℕ). Sends v Reserve (t .reserve)) (sym (third-joins .1 .format-is)) (t .reserves)) (third-joins .1 .store) (calm-quiet after-third (t .reserve) (third-joins .1 .calm))
         ∙ rw (third-joins .1 .rights, t .reserves-from, t .reserves-own, there (t .holder), key-there (t .holder), same-key (t .holder))
 
     rights-reserve : after-reserve .unit .rights ≡ rightsOf three-there 3 (t .reserves .asked .request .kind)
     unfolding acted reserving parametersOf held withReservation
     rights-reserve = altered Reserve after-third (t .reserve) (t .reserves .asked) good-reserve ∙ rw (third-joins .1 .rights, for-all)
+
+    reserve-calm : after-reserve .unit .attentions ≡ noAttentions
+    unfolding notice
+    reserve-calm =
+        altered-attentions Reserve after-third (t .reserve) (t .reserves .asked) good-reserve
+        ∙ notified-none Reserve (after-third .unit .rights) _ (t .reserve .nexus) (λ m. refl) (after-third .unit .attentions)
+        ∙ third-joins .1 .calm
 
     -- the key 0
     sender-has : keyIn after-reserve (t .preempt .nexus) ≡ t .key (t .sender)
@@ -235,7 +261,7 @@ module _ {format : ℕ} (t : Story format) where
     good-preempt : IsGood after-reserve (t .preempt)
     unfolding zeroAnswer gaveKey isRegistered keyIn typeIn
     good-preempt =
-        zero-answer after-reserve (t .preempt) (subst (λ (v : ℕ). Sends v Preempt (t .preempt)) (sym format-reserve) (t .preempts)) (t .preempts-zero) (usable-stays after-third (t .reserve) (third-joins .1 .store))
+        zero-answer after-reserve (t .preempt) (subst (λ (v : ℕ). Sends v Preempt (t .preempt)) (sym format-reserve) (t .preempts)) (t .preempts-zero) (usable-stays after-third (t .reserve) (third-joins .1 .store)) (calm-quiet after-reserve (t .preempt) reserve-calm)
         ∙ rw (rights-reserve, t .preempts-own, t .preempts-from, there (t .sender), key-there (t .sender), same-key (t .sender), for-all)
 
     four : generation (after step after-reserve (t .preempt)) ≡ 4
@@ -266,7 +292,7 @@ pub fresh-taken-over : (capacity format slots : ℕ) (medium : List ℕ) → T (
     → length medium ≡ 512 * slots → (t : Story format) → TakenOver step (freshStore capacity format slots medium) t
 unfolding freshStore freshUnit
 fresh-taken-over capacity format slots medium x f y e t =
-    taken-over t (freshStore capacity format slots medium) (fresh-usable capacity format slots medium x f y e) refl refl
+    taken-over t (freshStore capacity format slots medium) (fresh-usable capacity format slots medium x f y e) refl refl refl
 
 -- ---- there are such stories
 

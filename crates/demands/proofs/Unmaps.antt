@@ -25,6 +25,8 @@ use Rattle.demands.specs.Contents.{inRange, Asks, addressIn, IsGood, Out
 use Rattle.demands.proofs.Usable.{usable-stays, format-after}
 use Rattle.demands.proofs.Moving.{good-usable, good-pool, after-ways, moves-unit}
 use Rattle.demands.proofs.Transfers.{read-seen, read-sees}
+use Rattle.answers.specs.Answers.{numberOf}
+use mathlib.Core.Logic.{_≢_}
 
 -- ---- one after another
 
@@ -160,7 +162,7 @@ module _ (s : Store) (c : Call) (a : Asks Unmap c) where
   pub unmap-keeps : (b : ℕ) → T (not (named c a b)) → readBlock (after step s c .pool) b ≡ readBlock (s .pool) b
   unmap-keeps b t =
       after-ways s c (λ x. readBlock (x .pool) b ≡ readBlock (s .pool) b)
-      (λ e. unmap-contents e b ∙ ap (λ (q : Bool). cond q (zeros 512) (readBlock (s .pool) b)) (T-false (named c a b) t)) refl
+      (λ e. unmap-contents e b ∙ ap (λ (q : Bool). cond q (zeros 512) (readBlock (s .pool) b)) (T-false (named c a b) t)) refl (λ _. refl)
 
 -- ---- a READ after it
 
@@ -174,8 +176,8 @@ module _ (s : Store) (c r : Call) (a : Asks Unmap c) (b : Asks Read r) where
 
   -- a READ of blocks that none names sees what it would have seen before, and so it is where the UNMAP is refused
   pub unmap-keeps-others : ((i : ℕ) → i < countIn (b .request) → T (not (named c a (addressIn (b .request) + i))))
-      → step (after step s c) r .seen ≡ step s r .seen
-  unmap-keeps-others out =
+      → numberOf (step s c .seen .answer) ≢ 13 → step (after step s c) r .seen ≡ step s r .seen
+  unmap-keeps-others out n =
       after-ways s c (λ t. step t r .seen ≡ step s r .seen)
-      (λ e. let u = good-usable s c e in read-sees (after step s c) s r b (format-after s c) (moves-unit Unmap s c a) (usable-stays s c u) u
-      (reads-same (after step s c .pool) (s .pool) (addressIn (b .request)) (countIn (b .request)) (λ i h. unmap-keeps s c a (addressIn (b .request) + i) (out i h)))) refl
+      (λ e. let u = good-usable s c e in read-sees (after step s c) s r b (format-after s c) (moves-unit Unmap s c a n) (usable-stays s c u) u
+      (reads-same (after step s c .pool) (s .pool) (addressIn (b .request)) (countIn (b .request)) (λ i h. unmap-keeps s c a (addressIn (b .request) + i) (out i h)))) refl (λ e. absurd (n e))

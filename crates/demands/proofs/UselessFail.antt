@@ -8,7 +8,7 @@ use native.Mathlib.Omega.{arith}
 use lib.Dec.{T, eqb, not-T, T-not}
 use Rattle.fields.proofs.Tests.{and-l, and-r}
 use Rattle.answers.specs.declared.Refusal.{Refusal}
-use Rattle.answers.specs.declared.Refusal.the-variants.{NotListed, InvalidField, OutOfRange, ListLength, ListField, NoPlace, OtherType, NoRoom}
+use Rattle.answers.specs.declared.Refusal.the-variants.{NotListed, InvalidField, OutOfRange, ListLength, ListField, NoPlace, OtherType, NoRoom, RegistrationsPreempted, ReservationsPreempted, ReservationsReleased}
 use Rattle.answers.specs.declared.Answer.{Answer}
 use Rattle.answers.specs.declared.Answer.the-variants.{Good, Refused, Conflict, Unusable, Short}
 use Rattle.answers.specs.Answers.{codesOf, numberOf, noRoom}
@@ -23,6 +23,7 @@ use Rattle.demands.specs.Bench.{block, two, made, write-10}
 use Rattle.demands.specs.Cases.{caseOf, caseStill, caseNew, caseA, caseB, caseC, caseD, caseE, caseF, caseG, caseH, caseI, cases, writeH}
 use Rattle.demands.proofs.Computing.{meaning}
 use Rattle.demands.proofs.Comparing.{met-equal}
+use mathlib.Core.Logic.{inl}
 
 -- ---- they meet demand 3
 
@@ -45,7 +46,8 @@ module _ (g : ℕ → Call → Seen) where
   pub blind-meets : Demand3 (blind g)
   blind-meets = record {
     secret = λ s t cs ds u v f e w. heard-blind s cs ∙ ap₂ (λ (x : ℕ) (l : List Call). map (g x) l) f w ∙ sym (heard-blind t ds);
-    still = λ s c o h. blind-still s c;
+    still = λ s c o h w. blind-still s c;
+    own-alone = λ s c w. inl (blind-still s c);
     out-pool = λ s c o. ap (λ (x : Store). x .pool) (blind-still s c);
   }
 
@@ -87,6 +89,9 @@ number-good (Refused x) e = absurd (coded x e)
     coded NoPlace e = omega arith
     coded OtherType e = omega arith
     coded (NoRoom address) e = omega arith
+    coded RegistrationsPreempted e = omega arith
+    coded ReservationsPreempted e = omega arith
+    coded ReservationsReleased e = omega arith
 number-good Conflict e = absurd (omega arith)
 number-good Unusable e = absurd (omega arith)
 number-good Short e = absurd (omega arith)

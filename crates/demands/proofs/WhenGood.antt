@@ -23,27 +23,28 @@ use Rattle.forms.specs.declared.Move.the-variants.{Read, Write, Unmap}
 use Rattle.forms.specs.declared.Command.the-variants.{Moves}
 use Rattle.forms.specs.Forms.{countIn, listLengthIn}
 use Rattle.store.specs.declared.Unit.{Unit}
-use Rattle.store.specs.Store.{Store, Call, usable}
+use Rattle.store.specs.Store.{Store, Call, usable, waiting}
 use Rattle.store.specs.Conflict.{columnUnder, columnOf, says, conflict}
 use Rattle.store.specs.Move.{pastEnd, readRows, writeRows, moveRows}
 use Rattle.store.specs.Fresh.{freshUnit, freshStore}
-use Rattle.store.specs.Step.{step}
-use Rattle.store.proofs.Parts.{guardAnswer, Cleared, cleared, itself-cleared, conflict-first as first-conflict}
+use Rattle.store.specs.Step.{step, due}
+use Rattle.store.proofs.Parts.{guardAnswer, Cleared, cleared, itself-cleared, conflict-first as first-conflict, none-undue}
 use Rattle.store.proofs.StoreLaws.{step-answer}
 use Rattle.store.proofs.MoveLaws.{read-passes, write-passes, unmap-passes}
 use Rattle.demands.specs.History.{after}
-use Rattle.demands.specs.Contents.{Asks, addressIn, IsGood, byItself, Reaches, Inside, Room, SameRange}
+use Rattle.demands.specs.Contents.{Asks, addressIn, IsGood, byItself, Quiet, Reaches, Inside, Room, SameRange}
 use Rattle.demands.proofs.Usable.{usable-stays, format-after}
 use Rattle.demands.proofs.Fresh.{fresh-usable}
-use Rattle.demands.proofs.Moving.{good-usable, moves-unit, asks-guard, asks-rows}
+use Rattle.rights.proofs.AttentionLaws.{waiting-none}
+use Rattle.demands.proofs.Moving.{good-usable, good-after, asks-guard, asks-rows}
 use Rattle.demands.proofs.Transfers.{write-inside}
 
 -- ---- up to a command's own tests
 
-module _ (m : Move) (s : Store) (c : Call) (a : Asks m c) (u : T (usable s)) (g : byItself (s .format) c ≡ Good) where
+module _ (m : Move) (s : Store) (c : Call) (a : Asks m c) (u : T (usable s)) (g : byItself (s .format) c ≡ Good) (d : Quiet s c) where
   right : Cleared s c
   unfolding byItself
-  right = itself-cleared s c u g
+  right = itself-cleared s c u d g
 
   -- "10" comes first
   pub conflict-first : conflict (s .unit .rights) (c .nexus) (Moves m) ≡ true → step s c .seen .answer ≡ Conflict
@@ -60,7 +61,7 @@ module _ (m : Move) (s : Store) (c : Call) (a : Asks m c) (u : T (usable s)) (g 
 
 pub rows-answer : (m : Move) (s : Store) (c : Call) (a : Asks m c) → Reaches s a
     → step s c .seen .answer ≡ first (moveRows m (a .request) (s .unit .capacity) (s .pool) c)
-rows-answer m s c a r = own-answers m s c a (r .store) (r .call) (r .free)
+rows-answer m s c a r = own-answers m s c a (r .store) (r .call) (r .quiet) (r .free)
 
 -- an answer is GOOD exactly where the rows that give it are
 pub decided-by : {X : Type 0} {a b : Answer} → a ≡ b → b ≡ Good ↔ X → a ≡ Good ↔ X
@@ -121,12 +122,12 @@ unmap-good s c a r = decided-by (rows-answer Unmap s c a r) (unmap-passes (s .un
 -- ---- a READ of what a WRITE has written
 
 -- it is GOOD for every nexus that may read, with room for the data
-pub read-follows : (s : Store) (w r : Call) (a : Asks Write w) (b : Asks Read r) → SameRange (a .request) (b .request) → IsGood s w → byItself (s .format) r ≡ Good
+pub read-follows : (s : Store) (w r : Call) (a : Asks Write w) (b : Asks Read r) → SameRange (a .request) (b .request) → IsGood s w → byItself (s .format) r ≡ Good → Quiet s r
     → conflict (s .unit .rights) (r .nexus) (Moves Read) ≡ false → 512 * countIn (b .request) ≤ length (r .dataIn) → IsGood (after step s w) r
-read-follows s w r a b e g t f l =
-    let still : after step s w .unit ≡ s .unit = moves-unit Write s w a in
+read-follows s w r a b e g t q f l =
+    let still : after step s w .unit ≡ s .unit = ap (λ (x : Store). x .unit) (good-after Write s w a g) in
     read-good (after step s w) r b
-    (record { store = usable-stays s w (good-usable s w g); call = ap (λ (x : ℕ). byItself x r) (format-after s w) ∙ t; free = ap (λ (u : Unit). conflict (u .rights) (r .nexus) (Moves Read)) still ∙ f })
+    (record { store = usable-stays s w (good-usable s w g); call = ap (λ (x : ℕ). byItself x r) (format-after s w) ∙ t; quiet = subst (λ (u : Unit). T (not (due u (r .nexus) (r .cdb)))) (sym still) q; free = ap (λ (u : Unit). conflict (u .rights) (r .nexus) (Moves Read)) still ∙ f })
     .1 (
       subst (λ (u : Unit). addressIn (b .request) + countIn (b .request) ≤ u .capacity) (sym still) (rw (← e .address, ← e .count) (write-inside s w a g)),
       l,
@@ -137,6 +138,6 @@ read-follows s w r a b e g t f l =
 pub fresh-read-good : (capacity format slots : ℕ) (medium : List ℕ) (r : Call) → T (capacityOk capacity) → T (formatOk format) → T (slotsOk slots) → length medium ≡ 512 * slots
     → (a : Asks Read r) → byItself format r ≡ Good → addressIn (a .request) + countIn (a .request) ≤ capacity → 512 * countIn (a .request) ≤ length (r .dataIn)
     → IsGood (freshStore capacity format slots medium) r
-unfolding freshStore freshUnit noRights conflict columnOf columnUnder holds oneHolds allHold isOneOf says
+unfolding freshStore freshUnit waiting noRights conflict columnOf columnUnder holds oneHolds allHold isOneOf says
 fresh-read-good capacity format slots medium r x f y e a t h l =
-    read-good (freshStore capacity format slots medium) r a (record { store = fresh-usable capacity format slots medium x f y e; call = t; free = refl }) .1 (h, l)
+    read-good (freshStore capacity format slots medium) r a (record { store = fresh-usable capacity format slots medium x f y e; call = t; quiet = none-undue (freshUnit capacity) (r .nexus) (r .cdb) (waiting-none (r .nexus)); free = refl }) .1 (h, l)

@@ -34,14 +34,15 @@ use Rattle.forms.specs.declared.Request.{Request}
 use Rattle.forms.specs.Forms.{protectionBits, two, four, eight, bytesOf, spanBits, form, action, takes, lines, listed, lookup, entryFor, entryOf, number, requestBy, askedBy, askedIn, askedOf, countIn}
 use Rattle.forms.specs.Tests.{codeRows, lengthRows, notZero, wrongIn, checkOf, fieldRows}
 use Rattle.forms.proofs.Fields.{testsOf}
-use Rattle.store.specs.Store.{Store, Call, Seen, withPool, leaves, seenOf}
+use Rattle.store.specs.Store.{Store, Call, Seen, withPool, leaves, seenOf, withUnit, refusedUnit}
 use Rattle.store.specs.Move.{moveRows, moved, fetched}
-use Rattle.store.specs.Step.{callRows, guardRows, ownRows, step, answerTo}
-use Rattle.store.proofs.Parts.{fieldAnswer, parts}
+use Rattle.store.specs.Step.{callRows, guardRows, ownRows, step, answerTo, attentionRows, storeBy}
+use Rattle.store.proofs.Parts.{fieldAnswer, parts, asked-due}
 use Rattle.store.proofs.StoreLaws.{step-answer, step-seen, step-store}
 use Rattle.demands.specs.Contents.{Asks, SameRange, isTransfer, longOf, control, SaysSame, SameButPlace, transferCdb, cdb10, cdb16, callWith}
 use Rattle.demands.proofs.Moving.{asks-guard, asks-rows, asks-data, asks-store}
 use Rattle.demands.proofs.Fielded.{code-rows, not-empty, length-rows, nacaBits, nowhere, sizeSpan, size-is, threeRows, move-rows}
+use Rattle.forms.proofs.Table.{isInquiring}
 
 -- ---- one CDB by its row
 
@@ -140,6 +141,11 @@ module _ (m : Move) (t : T (isTransfer m)) (s : Store) (c d : Call) (a : Asks m 
   length-same : lengthRows (entryOf (c .cdb)) (c .cdb) ≡ lengthRows (entryOf (d .cdb)) (d .cdb)
   length-same = length-rows a (e .first-long) ∙ sym (length-rows b (e .second-long))
 
+  attention-same : attentionRows (s .unit) (c .nexus) (c .cdb) ≡ attentionRows (s .unit) (d .nexus) (d .cdb)
+  unfolding attentionRows isInquiring
+  attention-same =
+      rw (asked-due (s .unit) (c .nexus) (c .cdb) (a .request) (a .is) (rw (a .command) tt), asked-due (s .unit) (d .nexus) (d .cdb) (b .request) (b .is) (rw (b .command) tt), e .nexus)
+
   guard-same : guardRows (askedOf (c .cdb)) (s .unit .rights) (c .nexus) ≡ guardRows (askedOf (d .cdb)) (s .unit .rights) (d .nexus)
   guard-same = asks-guard m c a (s .unit .rights) (c .nexus) ∙ rw (e .nexus) (sym (asks-guard m d b (s .unit .rights) (d .nexus)))
 
@@ -157,8 +163,8 @@ module _ (m : Move) (t : T (isTransfer m)) (s : Store) (c d : Call) (a : Asks m 
 
   answers-alike : Alike (answerTo s c) (answerTo s d)
   answers-alike =
-      rw (parts s c, parts s d, call-same, code-same, length-same, guard-same, own-same)
-      (behind _ _ _ (behind _ _ _ (behind _ _ _ (behind _ _ _ (fields-alike _)))))
+      rw (parts s c, parts s d, call-same, code-same, length-same, attention-same, guard-same, own-same)
+      (behind _ _ _ (behind _ _ _ (behind _ _ _ (behind _ _ _ (behind _ _ _ (fields-alike _))))))
 
   buffers-same : (x : Answer) (bs : List ℕ) → seenOf (s .format) x bs c ≡ seenOf (s .format) x bs d
   unfolding seenOf
@@ -176,7 +182,8 @@ module _ (m : Move) (t : T (isTransfer m)) (s : Store) (c d : Call) (a : Asks m 
     store-same : step s c .store ≡ step s d .store
     store-same =
         step-store s c
-        ∙ ap₂ (λ (x : Answer) (y : Store). leaves x y s) same
+        ∙ ap (λ (n : ℕ). leaves (answerTo s c) (storeBy (askedOf (c .cdb)) s c) (withUnit s (refusedUnit (answerTo s c) n (s .unit)))) (e .nexus)
+        ∙ ap₂ (λ (x : Answer) (y : Store). leaves x y (withUnit s (refusedUnit x (d .nexus) (s .unit)))) same
         (asks-store m c a s ∙ ap (withPool s) (moved-same (a .request) (b .request) (e .range) c d (e .dataIn) (e .dataOut) m (s .pool) t) ∙ sym (asks-store m d b s))
         ∙ sym (step-store s d)
 

@@ -7,14 +7,14 @@ use mathlib.Core.Bool.{Bool, true, false, not, _&&_, cond, and-false, and-true, 
 use mathlib.Core.List.{List, []}
 use Prim.Native.Nat.{ℕ, suc, _+_, _*_, _≤_, _<_}
 use native.Mathlib.Omega.{arith}
-use lib.Dec.{T, T-not, ltb}
+use lib.Dec.{T, T-not, ltb, eqb}
 use lib.ListN.{length}
 use borrow.Author.Tests.{le-ltb}
 use Rattle.fields.specs.Bytes.{zeros, areZeros}
 use Rattle.fields.proofs.BytesLaws.{areZeros-zeros}
-use Rattle.fields.proofs.Tests.{and-l, both, test, by-test, true→T, T-true, T-false}
+use Rattle.fields.proofs.Tests.{and-l, both, test, by-test, true→T, T-true, T-false, by-equal}
 use Rattle.answers.specs.declared.Answer.{Answer}
-use Rattle.answers.specs.declared.Answer.the-variants.{Good}
+use Rattle.answers.specs.declared.Answer.the-variants.{Good, Refused}
 use Rattle.answers.specs.Order.{_if_, first}
 use Rattle.answers.proofs.OrderLaws.{good-cases}
 use Rattle.pool.specs.Pool.{Pool, place, mapped, readBlock, unmapOwners, unmapBlocks}
@@ -24,11 +24,11 @@ use Rattle.forms.specs.declared.Move.{Move}
 use Rattle.forms.specs.declared.Move.the-variants.{Write, WriteSame}
 use Rattle.forms.specs.declared.Command.the-variants.{Moves}
 use Rattle.forms.specs.Forms.{countIn}
-use Rattle.store.specs.Store.{Store, Call, Seen, withPool, usable, seenOf}
+use Rattle.store.specs.Store.{Store, Call, Seen, withPool, usable, seenOf, withUnit, relieved, waiting}
 use Rattle.store.specs.Same.{mayUnmap, hasNoData, blockSent, unmapsSame, sameBlocks}
 use Rattle.store.specs.Conflict.{conflict, stops, ruled}
 use Rattle.store.specs.Move.{writeRows, sameRows, moveRows, moved, fetched}
-use Rattle.store.specs.Step.{step, answerTo}
+use Rattle.store.specs.Step.{step, answerTo, due}
 use Rattle.store.proofs.ConflictLaws.{table-rule}
 use Rattle.store.proofs.SameLaws.{sent-zeros, copies-long, same-in, same-out}
 use Rattle.store.proofs.StoreLaws.{step-answer, step-seen}
@@ -40,6 +40,12 @@ use Rattle.demands.proofs.Moving.{good-usable, good-pool, good-after, g
 use Rattle.demands.proofs.Transfers.{usable-whole}
 use Rattle.demands.proofs.WhenGood.{conflict-first, own-answers, rows-answer, decided-by}
 use Rattle.demands.proofs.Unmaps.{in-range, range-in}
+use Rattle.answers.specs.Answers.{numberOf}
+use Rattle.forms.proofs.Table.{isInquiring}
+use Rattle.rights.specs.Attentions.{refusalOf}
+use Rattle.demands.proofs.Demand1.{told-store}
+use Rattle.store.proofs.Parts.{asked-due, itself-righted}
+use Rattle.demands.proofs.Answering.{due-answers, righted-reaches}
 
 -- ---- ranges
 
@@ -156,20 +162,42 @@ same-good s c a r =
 -- ---- two calls on one store, both right by themselves
 
 module _ (s : Store) (u : T (usable s)) (m n : Move) (c d : Call) (a : Asks m c) (b : Asks n d) (g : byItself (s .format) c ≡ Good) (h : byItself (s .format) d ≡ Good)
+    (from : c .nexus ≡ d .nexus)
     (stop : conflict (s .unit .rights) (c .nexus) (Moves m) ≡ conflict (s .unit .rights) (d .nexus) (Moves n))
     (rows : first (moveRows m (a .request) (s .unit .capacity) (s .pool) c) ≡ first (moveRows n (b .request) (s .unit .capacity) (s .pool) d)) where
-  pub answered-alike : step s c .seen .answer ≡ step s d .seen .answer
-  answered-alike =
+  -- what waits is due with both or with neither
+  due-alike : due (s .unit) (c .nexus) (c .cdb) ≡ due (s .unit) (d .nexus) (d .cdb)
+  unfolding isInquiring
+  due-alike =
+      asked-due (s .unit) (c .nexus) (c .cdb) (a .request) (a .is) (rw (a .command) tt)
+      ∙ ap (λ (x : ℕ). not (eqb (waiting (s .unit) x) 0)) from
+      ∙ sym (asked-due (s .unit) (d .nexus) (d .cdb) (b .request) (b .is) (rw (b .command) tt))
+
+  told-alike : T (due (s .unit) (c .nexus) (c .cdb)) → step s c .seen .answer ≡ step s d .seen .answer
+  unfolding byItself
+  told-alike t =
+      step-answer s c ∙ due-answers s c (righted-reaches s c u (itself-righted (s .format) c g)) t
+      ∙ ap (λ (x : ℕ). Refused (refusalOf (waiting (s .unit) x))) from
+      ∙ sym (step-answer s d ∙ due-answers s d (righted-reaches s d u (itself-righted (s .format) d h)) (rw (← due-alike) t))
+
+  quiet-alike : T (not (due (s .unit) (c .nexus) (c .cdb))) → step s c .seen .answer ≡ step s d .seen .answer
+  quiet-alike q =
+      let r : T (not (due (s .unit) (d .nexus) (d .cdb))) = rw (← due-alike) q in
       test (conflict (s .unit .rights) (c .nexus) (Moves m))
-      (λ t. conflict-first m s c a u g (T-true _ t) ∙ sym (conflict-first n s d b u h (sym stop ∙ T-true _ t)))
-      (λ t. own-answers m s c a u g (T-false _ t) ∙ rows ∙ sym (own-answers n s d b u h (sym stop ∙ T-false _ t)))
+      (λ t. conflict-first m s c a u g q (T-true _ t) ∙ sym (conflict-first n s d b u h r (sym stop ∙ T-true _ t)))
+      (λ t. own-answers m s c a u g q (T-false _ t) ∙ rows ∙ sym (own-answers n s d b u h r (sym stop ∙ T-false _ t)))
+
+  pub answered-alike : step s c .seen .answer ≡ step s d .seen .answer
+  answered-alike = test (due (s .unit) (c .nexus) (c .cdb)) told-alike quiet-alike
 
   -- and leave the same pool, if that is what each leaves where it is done
   pub left-alike : moved m (a .request) (s .pool) c ≡ moved n (b .request) (s .pool) d → after step s c ≡ after step s d
   left-alike e =
       good-cases (step s c .seen .answer)
       (λ k. good-after m s c a k ∙ ap (withPool s) e ∙ sym (good-after n s d b (sym answered-alike ∙ k)))
-      (λ t. refused-after s c t ∙ sym (refused-after s d (rw answered-alike at t)))
+      (λ t. by-equal (numberOf (step s c .seen .answer)) 13 (λ _. after step s c ≡ after step s d)
+      (λ k. told-store s c k ∙ ap (λ (x : ℕ). withUnit s (relieved (s .unit) x)) from ∙ sym (told-store s d (ap numberOf (sym answered-alike) ∙ k)))
+      (λ k. refused-after s c t k ∙ sym (refused-after s d (rw answered-alike at t) (λ z. k (ap numberOf answered-alike ∙ z)))))
 
 -- ---- UNMAP with a block that is not zeros
 
@@ -197,7 +225,7 @@ module _ (s : Store) (u : T (usable s)) (c d : Call) (a : Asks WriteSame c) (b :
   stops-alike = ap (λ (n : ℕ). conflict (s .unit .rights) n (Moves WriteSame)) (e .nexus)
 
   answers : step s c .seen .answer ≡ step s d .seen .answer
-  answers = answered-alike s u WriteSame WriteSame c d a b (e .first-right) (e .second-right) stops-alike (ap first rows-alike)
+  answers = answered-alike s u WriteSame WriteSame c d a b (e .first-right) (e .second-right) (e .nexus) stops-alike (ap first rows-alike)
 
   buffers : (x : Answer) → seenOf (s .format) x [] c ≡ seenOf (s .format) x [] d
   unfolding seenOf
@@ -216,7 +244,7 @@ module _ (s : Store) (u : T (usable s)) (c d : Call) (a : Asks WriteSame c) (b :
   unfolding after
   unmap-or-not =
       ap₂ (λ (x : Seen) (y : Store). record { seen = x; store = y }) sights
-      (left-alike s u WriteSame WriteSame c d a b (e .first-right) (e .second-right) stops-alike (ap first rows-alike) moved-alike)
+      (left-alike s u WriteSame WriteSame c d a b (e .first-right) (e .second-right) (e .nexus) stops-alike (ap first rows-alike) moved-alike)
 
 -- ---- a WRITE of the block as many times over
 
@@ -252,9 +280,9 @@ writes-same = record {
   good-when = same-good;
   nonzero = λ s c d a b u e there other. unmap-or-not s u c d a b e there other;
   answered-as-write = λ s c w a b u e there writes.
-      answered-alike s u WriteSame Write c w a b (e .first-right) (e .second-right) (stops-as-write s u c w a b e there writes)
+      answered-alike s u WriteSame Write c w a b (e .first-right) (e .second-right) (e .nexus) (stops-as-write s u c w a b e there writes)
       (ap first (rows-as-write s u c w a b e there writes));
   leaves-as-write = λ s c w a b u e there writes.
-      left-alike s u WriteSame Write c w a b (e .first-right) (e .second-right) (stops-as-write s u c w a b e there writes)
+      left-alike s u WriteSame Write c w a b (e .first-right) (e .second-right) (e .nexus) (stops-as-write s u c w a b e there writes)
       (ap first (rows-as-write s u c w a b e there writes)) (moved-as-write s u c w a b e there writes);
 }

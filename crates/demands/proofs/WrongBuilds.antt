@@ -20,7 +20,7 @@ use Rattle.store.specs.Store.{Seen, usable, seenOf}
 use Rattle.store.specs.Tell.{capacity16Data}
 use Rattle.demands.specs.History.{after, watched, heard}
 use Rattle.demands.specs.Demands.{Demand3}
-use Rattle.demands.specs.Contents.{AsksFor, Asks, byItself, inRange, transferCdb, cdb10}
+use Rattle.demands.specs.Contents.{AsksFor, Asks, byItself, inRange, transferCdb, cdb10, Quiet}
 use Rattle.demands.specs.Reservations.{GoodBy, isRegistered, typeIn, senderOf, sameSender, conflictTable, column, says, stopped, Reservations}
 use Rattle.demands.specs.Telling.{Telling}
 use Rattle.demands.specs.WriteSame.{isNdob, sent, covers, WritesSame}
@@ -61,7 +61,7 @@ harsh-stops = refl
 
 pub harsh-fails : Reservations harsh → ⊥
 unfolding meaning shown transferCdb cdb10 showing reads stopped typeIn senderOf conflictTable says column sameSender
-harsh-fails r = r .conflict-table Read shown reads read-asked shown-usable read-right .0 harsh-stops
+harsh-fails r = r .conflict-table Read shown reads read-asked shown-usable read-right tt .0 harsh-stops
 
 -- ---- WRITE(10) by an outsider passes under 1
 
@@ -81,9 +81,13 @@ table-stops : T (stopped shown writes Write)
 unfolding meaning shown transferCdb cdb10 showing writes stopped typeIn senderOf conflictTable says column sameSender
 table-stops = tt
 
+write-quiet : Quiet shown writes
+unfolding meaning shown transferCdb cdb10 showing writes
+write-quiet = tt
+
 pub lax-fails : Reservations lax → ⊥
 unfolding refuses
-lax-fails r = false≢true (ap refuses (sym lax-passes ∙ r .conflict-table Write shown writes write-asked shown-usable write-right .1 table-stops))
+lax-fails r = false≢true (ap refuses (sym lax-passes ∙ r .conflict-table Write shown writes write-asked shown-usable write-right write-quiet .1 table-stops))
 
 -- ---- byte 14 of READ CAPACITY(16) is 0
 

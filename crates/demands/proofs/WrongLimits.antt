@@ -40,8 +40,8 @@ unfolding meaning shown
 shown-heard c h k = record { store = tt; nexus = h; sense = k }
 
 page-fielded : (code n : ℕ) → Fielded shown (asksFor code n)
-unfolding meaning showing asksFor longOf
-page-fielded code n = record { heard = shown-heard (asksFor code n) (lit≤ tt) (lit≤ tt); long = refl; naca = refl }
+unfolding meaning shown showing asksFor longOf
+page-fielded code n = record { heard = shown-heard (asksFor code n) (lit≤ tt) (lit≤ tt); long = refl; quiet = tt; naca = refl }
 
 -- ---- page B0h says 127
 
@@ -62,8 +62,8 @@ unfolding meaning transferCdb cdb10 showing reads128 read-asked
 count-asked = refl
 
 read-fielded : Fielded shown reads128
-unfolding meaning transferCdb cdb10 showing reads128 longOf
-read-fielded = record { heard = shown-heard reads128 (lit≤ tt) (lit≤ tt); long = refl; naca = refl }
+unfolding meaning shown transferCdb cdb10 showing reads128 longOf
+read-fielded = record { heard = shown-heard reads128 (lit≤ tt) (lit≤ tt); long = refl; quiet = tt; naca = refl }
 
 read-unprotected : Unprotected reads128
 unfolding meaning transferCdb cdb10 showing reads128

@@ -32,19 +32,20 @@ use Rattle.forms.specs.declared.Tell.the-variants.{Keys, Reservation}
 use Rattle.forms.specs.declared.Move.{Move}
 use Rattle.forms.specs.declared.Command.the-variants.{Tells, Alters}
 use Rattle.forms.specs.Forms.{allocationIn, listLengthIn}
-use Rattle.store.specs.Store.{Store, Call, seenOf, usable}
+use Rattle.store.specs.Store.{Store, Call, seenOf, usable, relieved, waiting}
 use Rattle.store.specs.Tell.{told}
 use Rattle.store.specs.Alter.{parametersOf, alterRows}
 use Rattle.store.specs.Step.{guardRows, step}
 use Rattle.store.proofs.ConflictLaws.{altering-passes}
-use Rattle.store.proofs.Parts.{Cleared, cleared, itself-cleared, guardAnswer}
+use Rattle.store.proofs.Parts.{Cleared, cleared, itself-cleared, guardAnswer, none-undue}
 use Rattle.store.proofs.StoreLaws.{step-answer}
 use Rattle.demands.specs.History.{after}
 use Rattle.demands.specs.Generation.{generation, serviceKey}
-use Rattle.demands.specs.Contents.{AsksFor, Asks, IsGood, byItself}
+use Rattle.demands.specs.Contents.{AsksFor, Asks, IsGood, byItself, Quiet}
 use Rattle.demands.specs.Reservations.{keyIn, isRegistered, isHolder, typeIn, senderOf, outsider, conflictTable, says, stopped}
-use Rattle.demands.specs.ZeroKey.{senderKey, Sends, gaveKey, zeroAnswer, oneKey, oneHolder, ZeroKey, formerRows, former, RulesAgree}
-use Rattle.demands.proofs.Usable.{usable-stays, format-after}
+use Rattle.demands.specs.ZeroKey.{senderKey, Sends, gaveKey, zeroAnswer, oneKey, oneHolder, told as once, ZeroKey, formerRows, former, RulesAgree}
+use Rattle.rights.proofs.AttentionLaws.{returned-own}
+use Rattle.demands.proofs.Usable.{relieved-usable, usable-stays, format-after}
 use Rattle.demands.proofs.Moving.{good-usable, good-any}
 use Rattle.demands.proofs.Telling.{told-seen}
 use Rattle.demands.proofs.Conflicts.{conflict-table}
@@ -53,13 +54,13 @@ use Rattle.demands.proofs.Reservations.{taken, zero-over, places-distin
 
 -- ---- a reservation-out call that comes as far as its keys
 
-module _ (a : Action) (s : Store) (c : Call) (w : Sends (s .format) a c) (u : T (usable s)) where
+module _ (a : Action) (s : Store) (c : Call) (w : Sends (s .format) a c) (u : T (usable s)) (d : Quiet s c) where
   abbrev parameters : Parameters
   parameters = parametersOf (w .asked .request) (c .dataOut)
 
   right : Cleared s c
   unfolding byItself
-  right = itself-cleared s c u (w .right)
+  right = itself-cleared s c u d (w .right)
 
   unguarded : guardAnswer (s .unit) c ≡ Good
   unfolding guardRows firstOf
@@ -76,11 +77,11 @@ module _ (a : Action) (s : Store) (c : Call) (w : Sends (s .format) a c) (u : T 
 
 -- ---- the answer
 
-module _ (s : Store) (c : Call) (w : Sends (s .format) Preempt c) (z : serviceKey c ≡ 0) (u : T (usable s)) where
+module _ (s : Store) (c : Call) (w : Sends (s .format) Preempt c) (z : serviceKey c ≡ 0) (u : T (usable s)) (d : Quiet s c) where
   pub zero-answer : step s c .seen .answer ≡ zeroAnswer s c
   unfolding zeroAnswer gaveKey senderKey serviceKey isRegistered keyIn typeIn parametersOf numberIn keyWrong stranger
   zero-answer =
-      sent-answer Preempt s c w u
+      sent-answer Preempt s c w u d
       ∙ go (registered (c .nexus) (s .unit .rights .places)) (eqb (senderKey c) (keyOf (c .nexus) (s .unit .rights .places)))
       ∙ ap (λ (x : Answer). cond (registered (c .nexus) (s .unit .rights .places) && eqb (senderKey c) (keyOf (c .nexus) (s .unit .rights .places))) x Conflict)
       (zero-own (s .unit .rights) (c .nexus) (parametersOf (w .asked .request) (c .dataOut)) z)
@@ -162,12 +163,14 @@ module _ (s : Store) (c : Call) (w : AsksFor (Alters Preempt) c) (e : IsGood s c
   outside n d = rw (zero-holders n, left-registered n, ne-eqb n (c .nexus) d)
 
   pub zero-others : (m : Move) (d : Call) → Asks m d → byItself (s .format) d ≡ Good → d .nexus ≢ c .nexus
-      → step (after step s c) d .seen .answer ≡ Conflict ↔ T (says conflictTable (w .request .kind) outsider m)
-  unfolding stopped
+      → step (once (after step s c) (d .nexus)) d .seen .answer ≡ Conflict ↔ T (says conflictTable (w .request .kind) outsider m)
+  unfolding stopped once relieved waiting typeIn
   zero-others m d a g o =
-      subst (λ (b : Bool). step (after step s c) d .seen .answer ≡ Conflict ↔ T b)
+      subst (λ (b : Bool). step (once (after step s c) (d .nexus)) d .seen .answer ≡ Conflict ↔ T b)
       (ap₂ (λ (k : ℕ) (x : _). says conflictTable k x m) zero-type (outside (d .nexus) o))
-      (conflict-table m (after step s c) d a (usable-stays s c (good-usable s c e)) (ap (λ (x : ℕ). byItself x d) (format-after s c) ∙ g))
+      (conflict-table m (once (after step s c) (d .nexus)) d a (relieved-usable (after step s c) (d .nexus) (usable-stays s c (good-usable s c e)))
+      (ap (λ (x : ℕ). byItself x d) (format-after s c) ∙ g)
+      (none-undue (relieved (after step s c .unit) (d .nexus)) (d .nexus) (d .cdb) (returned-own (d .nexus) (after step s c .unit .attentions))))
 
 pub zero-key : ZeroKey step
 zero-key = record {

@@ -17,7 +17,7 @@ use Rattle.store.specs.Store.{Store, Call, Seen, withUnit, usable, relieved}
 use Rattle.store.specs.Fresh.{freshStore}
 use Rattle.store.specs.Step.{step}
 use Rattle.ridge.specs.Interface.{Left, executed, FreshLeft, freshened}
-use Rattle.demands.specs.History.{Event, call, Machine, machine, isOut, isShutOut, isSomebody, isWaitedFor, afterAll, seenAll}
+use Rattle.demands.specs.History.{Event, call, Machine, machine, isOut, isShutOut, isWaitedFor, afterAll, seenAll}
 use Rattle.demands.specs.Contents.{plain}
 use Rattle.demands.specs.SenseRead.{senseLong}
 use Rattle.demands.specs.Demands.{Secrecy}
@@ -117,7 +117,7 @@ pub record Demand3AtC : Type 0 where
   -- a call by one who is shut out changes nothing that is stored, unless it is a reservation-out call or something waits for the caller
   pub still : (s : Store) (c : Call) → T (not (isOut c)) → T (isShutOut s c) → T (not (isWaitedFor (s .unit) c)) → storeIn (s .format) (executed s c) ≡ s
   -- and then it changes that alone
-  pub own-alone : (s : Store) (c : Call) → T (isSomebody c) → T (isWaitedFor (s .unit) c)
+  pub own-alone : (s : Store) (c : Call) → T (isWaitedFor (s .unit) c)
       → (storeIn (s .format) (executed s c) ≡ s) ⊎ (storeIn (s .format) (executed s c) ≡ withUnit s (relieved (s .unit) (c .nexus)))
   -- which changes no block and no mapping
   pub out-pool : (s : Store) (c : Call) → T (isOut c) → storeIn (s .format) (executed s c) .pool ≡ s .pool

@@ -68,6 +68,10 @@ wrongFieldAt place = refusedAt 2 0x05 0x24 0x00 place
 unfoldable pub wrongListAt : List ℕ → Call → Want
 wrongListAt place = refusedAt 5 0x05 0x26 0x00 place
 
+-- Q-6: 13, with what waited
+unfoldable pub attentionTold : ℕ → Call → Want
+attentionTold ascq = refused 13 0x06 0x2A ascq
+
 -- 10, status 18h
 unfoldable pub conflicts : Call → Want
 conflicts = lays 10 (Given 0x18) []

@@ -99,7 +99,7 @@ pub record Demand3 (f : Build) : Type 0 where
   -- "Apart from reservation-out calls, a shut-out call changes no stored thing"
   pub still : (s : Store) (c : Call) → T (not (isOut c)) → T (isShutOut s c) → T (not (isWaitedFor (s .unit) c)) → after f s c ≡ s
   -- Q-6: "such a call may change only its own": what a call by a nexus with one waiting leaves is the store but for that, a reservation-out call or not
-  pub own-alone : (s : Store) (c : Call) → T (isSomebody c) → T (isWaitedFor (s .unit) c) → (after f s c ≡ s) ⊎ (after f s c ≡ withUnit s (relieved (s .unit) (c .nexus)))
+  pub own-alone : (s : Store) (c : Call) → T (isWaitedFor (s .unit) c) → (after f s c ≡ s) ⊎ (after f s c ≡ withUnit s (relieved (s .unit) (c .nexus)))
   -- "and a reservation-out call never changes a block or a mapping."
   pub out-pool : (s : Store) (c : Call) → T (isOut c) → after f s c .pool ≡ s .pool
 

@@ -9,7 +9,7 @@ use Rattle.answers.specs.Sense.{fixed}
 use Rattle.rights.specs.Places.{unused}
 use Rattle.store.specs.Fresh.{freshStore, freshUnit}
 use Rattle.store.specs.Store.{Call}
-use Rattle.demands.specs.Checker.{pastEndAt, noRoomAt, good, refused, wrongFieldAt, wrongListAt, conflicts, no-status, Case, Want, _gives_}
+use Rattle.demands.specs.Checker.{pastEndAt, noRoomAt, good, refused, wrongFieldAt, wrongListAt, conflicts, attentionTold, no-status, Case, Want, _gives_}
 use Rattle.demands.specs.Bench.{block, new, at, places, two, eight, made, made-of, lent, call, ready, capacity-16, cdb-10, cdb-16, read-10, read-16, write-10, write-16, unmap-list, descriptor, out, in-call}
 use Rattle.demands.specs.Cases.{caseOf, caseStill, caseNew}
 
@@ -113,10 +113,12 @@ caseGeneration = caseOf (made (0 ∷ 0 ∷ []) two 0 0 7)
     ∷ out 3 0 0 0 0x33 gives good []
     ∷ out 1 1 3 0x11 0 gives good []
     ∷ out 2 4 6 0x22 0x11 gives good []
+    ∷ ready 1 gives attentionTold 0x05
     ∷ in-call 1 1 gives good (bytes 4 9 ++ (bytes 4 16 ++ (bytes 8 0x22 ++ (zeros 5 ++ (6 ∷ zeros 2)))))
     ∷ read-10 1 0 1 gives conflicts
     ∷ out 3 3 0 0x33 0 gives good []
-    ∷ in-call 1 1 gives good (bytes 4 10 ++ bytes 4 0) ∷ [])
+    ∷ in-call 1 1 gives good (bytes 4 10 ++ bytes 4 0)
+    ∷ ready 2 gives attentionTold 0x03 ∷ [])
     (made (0 ∷ 0 ∷ []) (places []) 0 0 10)
 
 -- a reservation ends when its holder, or the last registrant, is gone
@@ -136,6 +138,7 @@ unfoldable pub caseShared : Case
 caseShared =
     caseOf (made (0 ∷ 0 ∷ []) (places (at 1 0x11 ∷ at 2 0x11 ∷ at 3 0x22 ∷ [])) 3 1 0)
     (out 2 4 6 0x11 0x11 gives good []
+    ∷ ready 1 gives attentionTold 0x05
     ∷ in-call 1 0 gives good (bytes 4 1 ++ (bytes 4 16 ++ (bytes 8 0x11 ++ bytes 8 0x22)))
     ∷ read-10 1 0 1 gives conflicts
     ∷ out 3 4 6 0x22 0x22 gives good []
@@ -152,14 +155,17 @@ caseZeroKey =
     ∷ out 3 1 5 0x33 0 gives good []
     ∷ out 3 4 3 0x33 0 gives wrongKey
     ∷ out 3 2 5 0x33 0 gives good []
+    ∷ ready 2 gives attentionTold 0x04
     ∷ out 3 1 7 0x33 0 gives good []
     ∷ out 2 4 8 0x33 0 gives conflicts
     ∷ out 4 4 8 0 0 gives conflicts
     ∷ out 2 4 8 0x22 0 gives good []
+    ∷ ready 3 gives attentionTold 0x05
     ∷ in-call 3 0 gives good (bytes 4 1 ++ (bytes 4 8 ++ bytes 8 0x22))
     ∷ in-call 3 1 gives good (bytes 4 1 ++ (bytes 4 16 ++ (bytes 8 0 ++ (zeros 5 ++ (8 ∷ zeros 2)))))
     ∷ out 2 4 3 0x22 0 gives good []
     ∷ in-call 3 1 gives good (bytes 4 2 ++ (bytes 4 16 ++ (bytes 8 0x22 ++ (zeros 5 ++ (3 ∷ zeros 2)))))
+    ∷ ready 1 gives attentionTold 0x05
     ∷ write-10 1 0 1 (block 0xB0) gives conflicts
     ∷ read-10 3 0 1 gives conflicts
     ∷ out 2 4 3 0x22 0 gives wrongKey ∷ [])
@@ -335,7 +341,8 @@ caseFlags = caseOf (made (0 ∷ 0 ∷ []) two 0 0 0)
     ∷ flagged 1 3 0x0D gives good []
     ∷ flagged 4 6 0x0D gives good []
     ∷ flagged 2 6 0x0D gives good []
-    ∷ flagged 3 0 0x0D gives good [] ∷ [])
+    ∷ flagged 3 0 0x0D gives good []
+    ∷ ready 2 gives attentionTold 0x03 ∷ [])
     (made (0 ∷ 0 ∷ []) (places []) 0 0 4)
 
 -- "for 1, 2, 4 … a scope not 0 or a type outside the six: 2"; in the others byte 2 is ignored
@@ -353,7 +360,8 @@ caseTypes = caseOf (made (0 ∷ 0 ∷ []) two 1 1 0)
     ∷ out 1 0 0x32 0x11 0x11 gives good []
     ∷ out 1 6 0x32 0 0x11 gives good []
     ∷ out 1 2 0x01 0x11 0 gives good []
-    ∷ out 1 3 0x32 0x11 0 gives good [] ∷ [])
+    ∷ out 1 3 0x32 0x11 0 gives good []
+    ∷ ready 2 gives attentionTold 0x03 ∷ [])
     (made (0 ∷ 0 ∷ []) (places []) 0 0 3)
 
 -- a CDB of 10 bytes with this code, byte 1, count and control byte, and one of 16

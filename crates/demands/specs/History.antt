@@ -113,9 +113,9 @@ replay m plain format u (c ∷ cs) = m .seen (plain format u) c ∷ replay m pla
 -- ---- the same of a build, where nothing happens but calls
 
 unfoldable pub watched : Build → Store → List Call → List Call
-unfolding afterEvent isSomebody isKept watchedOn
+unfolding afterEvent isSomebody isWaitedFor isKept watchedOn
 watched f s cs = watchedOn (machine f) s (map call cs)
 
 unfoldable pub heard : Build → Store → List Call → List Seen
-unfolding afterEvent isSomebody isKept heardOn
+unfolding afterEvent isSomebody isWaitedFor isKept heardOn
 heard f s cs = heardOn (machine f) s (map call cs)

@@ -15,6 +15,7 @@ use Rattle.rights.specs.declared.Rights.{Rights}
 use Rattle.rights.specs.declared.Action.{Action}
 use Rattle.rights.specs.declared.Action.the-variants.{Register, Reserve, Release, Clear, Preempt, RegisterIgnoring}
 use Rattle.rights.specs.Places.{registered}
+use Rattle.rights.specs.Rights.{isOneOf}
 use Rattle.rights.specs.Attentions.{eachOk, attentionsOk, noAttentions, waitingFor, returnedTo}
 use Rattle.rights.specs.Notices.{removed, forRegistrants, released, releaseNotice, notice, renewed, notifiedFrom, notified}
 
@@ -134,7 +135,32 @@ module _ (a : Action) (before after : Rights) (n : ℕ) where
   unfolding renewed
   sender-keeps old = rw (T-true (eqb n n) (eqb-refl n))
 
--- where the rights stay, nobody is told anything
+-- where nobody is to be told anything all stays
+
+module _ (a : Action) (before after : Rights) (n : ℕ) (none : (m : ℕ) → notice a before after m ≡ 0) where
+  unnoticed : (m old : ℕ) → renewed a before after n m old ≡ old
+  unfolding renewed
+  unnoticed m old = rw (none m) (go (eqb m n) 0)
+    where
+      go : (b : Bool) (y : ℕ) → cond (b || true) old y ≡ old
+      go true y = refl
+      go false y = refl
+
+  pub notified-none : (xs : List ℕ) → notified a before after n xs ≡ xs
+  unfolding notified notifiedFrom
+  notified-none xs = go 0 xs
+    where
+      go : (m : ℕ) (l : List ℕ) → notifiedFrom a before after n m l ≡ l
+      go m [] = refl
+      go m (x ∷ l) = rw (unnoticed m x, go (suc m) l)
+
+-- as where there was no reservation to be released
+
+pub unreserved-notice : (before after : Rights) (m : ℕ) → before .kind ≡ 0 → releaseNotice before after m ≡ 0
+unfolding releaseNotice released forRegistrants isOneOf
+unreserved-notice before after m e = rw e
+
+-- and where the rights stay
 
 module _ (r : Rights) where
   none-released : (m : ℕ) → releaseNotice r r m ≡ 0
@@ -162,18 +188,5 @@ module _ (r : Rights) where
   none-noticed Clear m = rw (none-removed m)
   none-noticed Preempt m = rw (none-removed m) (none-released m)
 
-  unnoticed : (a : Action) (n m old : ℕ) → renewed a r r n m old ≡ old
-  unfolding renewed
-  unnoticed a n m old = rw (none-noticed a m) (go (eqb m n) 0)
-    where
-      go : (b : Bool) (y : ℕ) → cond (b || true) old y ≡ old
-      go true y = refl
-      go false y = refl
-
   pub notified-still : (a : Action) (n : ℕ) (xs : List ℕ) → notified a r r n xs ≡ xs
-  unfolding notified notifiedFrom
-  notified-still a n xs = go 0 xs
-    where
-      go : (m : ℕ) (l : List ℕ) → notifiedFrom a r r n m l ≡ l
-      go m [] = refl
-      go m (x ∷ l) = rw (unnoticed a n m x, go (suc m) l)
+  notified-still a n xs = notified-none a r r n (none-noticed a) xs

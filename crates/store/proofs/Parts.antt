@@ -19,7 +19,9 @@ use Rattle.forms.specs.Forms.{entryOf, Asked, nothing, asks, askedOf}
 use Rattle.forms.specs.Tests.{codeRows, lengthRows, fieldRows}
 use Rattle.forms.specs.declared.Entry.{Entry}
 use Rattle.forms.specs.declared.Request.{Request}
-use Rattle.forms.proofs.Table.{isInquiring, inquiring, code-inquiring, other-inquiring, asked-other}
+use Rattle.forms.specs.declared.Command.{Command}
+use Rattle.forms.specs.declared.Command.the-variants.{Tells, Moves, Alters}
+use Rattle.forms.proofs.Table.{isMoves, movesIn, isInquiring, inquiring, code-inquiring, other-inquiring, asked-other}
 use Rattle.forms.proofs.Refusing.{code-refusing, length-refusing, field-refusing, unserved}
 use Rattle.store.specs.declared.Unit.{Unit}
 use Rattle.store.specs.Store.{Store, Call, usable, waiting}
@@ -146,6 +148,20 @@ module _ (u : Unit) (n : ℕ) where
       and-true true = refl
       and-true false = refl
 
+  -- neither a command on the blocks nor one that alters rights is INQUIRY
+  pub moves-due : (cdb : List ℕ) → T (movesIn (askedOf cdb)) → due u n cdb ≡ not (eqb (waiting u n) 0)
+  unfolding movesIn isMoves isInquiring
+  moves-due cdb t = go (askedOf cdb) refl t
+    where
+      other : (k : Command) → T (isMoves k) → T (not (isInquiring k))
+      other (Tells x) h = absurd h
+      other (Moves m) h = tt
+      other (Alters a) h = absurd h
+
+      go : (x : Asked) → askedOf cdb ≡ x → T (movesIn x) → due u n cdb ≡ not (eqb (waiting u n) 0)
+      go nothing e h = absurd h
+      go (asks q) e h = asked-due cdb q e (other (q .command) h)
+
   pub entry-due : (cdb cdb′ : List ℕ) → entryOf cdb ≡ entryOf cdb′ → due u n cdb ≡ due u n cdb′
   unfolding due isInquiry
   entry-due cdb cdb′ e = ap (λ (b : Bool). not (eqb (waiting u n) 0) && not b) (go (eqb (byte 0 cdb) 0x12) (eqb (byte 0 cdb′) 0x12) (code-inquiring cdb) (other-inquiring cdb) (code-inquiring cdb′) (other-inquiring cdb′))
@@ -188,26 +204,45 @@ pub record Cleared (s : Store) (c : Call) : Type 0 where
 pub cleared : (s : Store) (c : Call) → Cleared s c → answerTo s c ≡ next (guardAnswer (s .unit) c) (ownAnswer s c)
 cleared s c p = from-fields s c (p .call) (p .store) (p .code) (p .length) (p .attention) ∙ next-after (fieldAnswer c) _ (p .fields)
 
--- a call that is right by itself, with nothing due: who calls, the buffers, and the code, length and fields of the CDB
+-- a call that is right by itself: who calls, the buffers, and the code, length and fields of the CDB
+pub record Righted (format : ℕ) (c : Call) : Type 0 where
+  pub call : callAnswer format c ≡ Good
+  pub code : codeAnswer c ≡ Good
+  pub length : lengthAnswer c ≡ Good
+  pub fields : fieldAnswer c ≡ Good
+
+pub itself-righted : (format : ℕ) (c : Call)
+    → first (callRows format c ++ (codeRows (entryOf (c .cdb)) ++ (lengthRows (entryOf (c .cdb)) (c .cdb) ++ fieldRows (entryOf (c .cdb)) (c .cdb)))) ≡ Good
+    → Righted format c
+itself-righted format c e =
+    let e₀ : next (callAnswer format c) (next (codeAnswer c) (next (lengthAnswer c) (fieldAnswer c))) ≡ Good =
+    sym
+    (then (callRows format c) _ _ (call-refusing format c)
+    (then (codeRows (entryOf (c .cdb))) _ _ (code-refusing (entryOf (c .cdb)))
+    (first-append (lengthRows (entryOf (c .cdb)) (c .cdb)) _ (length-refusing (entryOf (c .cdb)) (c .cdb)))))
+    ∙ e in
+    let e₁ = next-second (callAnswer format c) _ e₀ in
+    let e₂ = next-second (codeAnswer c) _ e₁ in
+    record {
+      call = next-first (callAnswer format c) _ e₀;
+      code = next-first (codeAnswer c) _ e₁;
+      length = next-first (lengthAnswer c) _ e₂;
+      fields = next-second (lengthAnswer c) _ e₂;
+    }
+
+-- and nothing is due
 pub itself-cleared : (s : Store) (c : Call) → T (usable s) → T (not (due (s .unit) (c .nexus) (c .cdb)))
     → first (callRows (s .format) c ++ (codeRows (entryOf (c .cdb)) ++ (lengthRows (entryOf (c .cdb)) (c .cdb) ++ fieldRows (entryOf (c .cdb)) (c .cdb)))) ≡ Good
     → Cleared s c
 itself-cleared s c u d e =
-    let e₀ : next (callAnswer (s .format) c) (next (codeAnswer c) (next (lengthAnswer c) (fieldAnswer c))) ≡ Good =
-    sym
-    (then (callRows (s .format) c) _ _ (call-refusing (s .format) c)
-    (then (codeRows (entryOf (c .cdb))) _ _ (code-refusing (entryOf (c .cdb)))
-    (first-append (lengthRows (entryOf (c .cdb)) (c .cdb)) _ (length-refusing (entryOf (c .cdb)) (c .cdb)))))
-    ∙ e in
-    let e₁ = next-second (callAnswer (s .format) c) _ e₀ in
-    let e₂ = next-second (codeAnswer c) _ e₁ in
+    let r = itself-righted (s .format) c e in
     record {
-      call = next-first (callAnswer (s .format) c) _ e₀;
+      call = r .call;
       store = u;
-      code = next-first (codeAnswer c) _ e₁;
-      length = next-first (lengthAnswer c) _ e₂;
+      code = r .code;
+      length = r .length;
       attention = undue-passes (s .unit) (c .nexus) (c .cdb) d;
-      fields = next-second (lengthAnswer c) _ e₂;
+      fields = r .fields;
     }
 
 -- "Testing room before the conflict, which tells an outsider how full the pool is": a conflict is answered whatever the command's own tests say
@@ -264,6 +299,13 @@ guard-refused s c t =
     rw (parts s c, next-refuses (guardAnswer (s .unit) c) (ownAnswer s c) t)
     (next-refused (callAnswer (s .format) c) _ (next-refused (storeAnswer s) _ (next-refused (codeAnswer c) _ (next-refused (lengthAnswer c) _ (next-refused (attentionAnswer (s .unit) c) _ (next-refused (fieldAnswer c) _ t))))))
 
+-- so is one to which what waits is returned
+pub attention-refused : (s : Store) (c : Call) → T (due (s .unit) (c .nexus) (c .cdb)) → T (refuses (answerTo s c))
+unfolding refuses
+attention-refused s c t =
+    rw (parts s c, due-stops (s .unit) (c .nexus) (c .cdb) t, next-refuses (Refused (refusalOf (waiting (s .unit) (c .nexus)))) (next (fieldAnswer c) (next (guardAnswer (s .unit) c) (ownAnswer s c))) tt)
+    (next-refused (callAnswer (s .format) c) _ (next-refused (storeAnswer s) _ (next-refused (codeAnswer c) _ (next-refused (lengthAnswer c) _ tt))))
+
 -- a call for nothing that the table serves is refused
 pub unserved-refused : (s : Store) (c : Call) → askedOf (c .cdb) ≡ nothing → T (refuses (answerTo s c))
 unfolding askedOf
@@ -290,17 +332,21 @@ unusable-answer s c t =
 -- ---- two stores, one call
 
 -- the tests before a command's own see the format and the unit's record alone: usable stores that agree on them answer alike, if the command's own tests
--- do where the guard lets them be made
+-- do where nothing is due and the guard lets them be made
 module _ (s t : Store) (c : Call) (u : T (usable s)) (v : T (usable t)) (f : s .format ≡ t .format) (e : s .unit ≡ t .unit)
-    (h : guardAnswer (s .unit) c ≡ Good → ownAnswer s c ≡ ownAnswer t c) where
-  past-guard : next (guardAnswer (s .unit) c) (ownAnswer s c) ≡ next (guardAnswer (s .unit) c) (ownAnswer t c)
-  past-guard =
-      good-cases (guardAnswer (s .unit) c) (λ g. ap (next (guardAnswer (s .unit) c)) (h g))
-      (λ r. next-refuses (guardAnswer (s .unit) c) (ownAnswer s c) r ∙ sym (next-refuses (guardAnswer (s .unit) c) (ownAnswer t c) r))
+    (h : attentionAnswer (s .unit) c ≡ Good → guardAnswer (s .unit) c ≡ Good → ownAnswer s c ≡ ownAnswer t c) where
+  -- what is behind a stage that refuses is not seen
+  behind : (a b d : Answer) → (a ≡ Good → b ≡ d) → next a b ≡ next a d
+  behind a b d k = good-cases a (λ g. ap (next a) (k g)) (λ r. next-refuses a b r ∙ sym (next-refuses a d r))
+
+  past-attention-alike : next (attentionAnswer (s .unit) c) (next (fieldAnswer c) (next (guardAnswer (s .unit) c) (ownAnswer s c)))
+      ≡ next (attentionAnswer (s .unit) c) (next (fieldAnswer c) (next (guardAnswer (s .unit) c) (ownAnswer t c)))
+  past-attention-alike =
+      behind (attentionAnswer (s .unit) c) _ _ (λ w. ap (next (fieldAnswer c)) (behind (guardAnswer (s .unit) c) (ownAnswer s c) (ownAnswer t c) (h w)))
 
   staged-alike : staged s c ≡ staged t c
   staged-alike =
-      ap (λ (a : Answer). next (codeAnswer c) (next (lengthAnswer c) (next (attentionAnswer (s .unit) c) (next (fieldAnswer c) a)))) past-guard
+      ap (λ (a : Answer). next (codeAnswer c) (next (lengthAnswer c) a)) past-attention-alike
       ∙ ap
       (λ (x : Unit). next (codeAnswer c) (next (lengthAnswer c) (next (attentionAnswer x c) (next (fieldAnswer c) (next (guardAnswer x c) (ownAnswer t c)))))) e
 

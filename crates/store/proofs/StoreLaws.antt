@@ -11,14 +11,16 @@ use Rattle.answers.specs.Order.{first, ifGoodBy, refuses}
 use Rattle.answers.proofs.OrderLaws.{row-stop, if-good, if-refused, good-cases}
 use Rattle.pool.specs.Pool.{Pool}
 use Rattle.rights.specs.declared.Rights.{Rights}
+use Rattle.rights.specs.declared.Action.{Action}
 use Rattle.rights.specs.Actions.{acted}
+use Rattle.rights.proofs.AttentionLaws.{notified-still}
 use Rattle.forms.specs.declared.Command.{Command}
 use Rattle.forms.specs.declared.Command.the-variants.{Tells, Moves, Alters}
 use Rattle.forms.specs.declared.Request.{Request}
 use Rattle.forms.specs.Forms.{Asked, nothing, asks, askedOf}
 use Rattle.forms.proofs.Table.{isMoves, isAlters, movesIn, altersIn}
 use Rattle.store.specs.declared.Unit.{Unit}
-use Rattle.store.specs.Store.{Store, Call, withUnit, relieved, enacted, refusedUnit, leaves, seenOf}
+use Rattle.store.specs.Store.{Store, Call, withAttentions, withUnit, relieved, enacted, refusedUnit, leaves, seenOf}
 use Rattle.store.specs.Tell.{told, tellRows}
 use Rattle.store.specs.Alter.{parametersOf, alterRows}
 use Rattle.store.specs.Conflict.{conflict}
@@ -117,6 +119,11 @@ pub unit-data : (x : Asked) (s t : Store) → T (not (movesIn x)) → s .unit �
 unfolding dataBy movesIn
 unit-data nothing s t h e = refl
 unit-data (asks q) s t h e = command-data (q .command) q s t h e
+
+-- an action that leaves the rights leaves the unit's record: it tells nobody anything
+pub enacted-still : (a : Action) (n : ℕ) (u : Unit) → enacted a n u (u .rights) ≡ u
+unfolding enacted
+enacted-still a n u = ap (withAttentions u) (notified-still (u .rights) a n (u .attentions))
 
 -- ---- who changes what
 

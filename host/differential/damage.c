@@ -242,6 +242,30 @@ static bool nobody_registered(struct random *random, const struct lent *lent)
     return true;
 }
 
+/* ---- Attentions ---- */
+
+/* One above the three, one that is among them if a bit is cut, or any. */
+static bool attention_not_listed(struct random *random, const struct lent *lent)
+{
+    uint64_t nexus = random_below(random, RIDGE_NEXUSES);
+    uint64_t listed = random_below(random, RIDGE_RESERVATIONS_RELEASED + 1);
+    uint64_t with_a_bit = listed | UINT64_C(1) << (2 + random_below(random, 6));
+    uint64_t any = 4 + random_below(random, 252);
+
+    lent->unit->attentions[nexus] = (uint8_t)RANDOM_CHOICE(
+        random, 4, 4, 128, 255, with_a_bit, with_a_bit, any, any);
+    return true;
+}
+
+static bool another_attention(struct random *random, const struct lent *lent)
+{
+    uint64_t nexus = random_below(random, RIDGE_NEXUSES);
+
+    lent->unit->attentions[nexus] =
+        (uint8_t)random_below(random, RIDGE_RESERVATIONS_RELEASED + 1);
+    return true;
+}
+
 /* ---- The record as bytes ---- */
 
 static bool another_bit(struct random *random, const struct lent *lent)
@@ -281,6 +305,8 @@ static const struct way {
     {"a holder of no reservation", true, holder_of_no_reservation},
     {"a holder beside all registrants", true, holder_beside_all},
     {"a reservation and nobody registered", true, nobody_registered},
+    {"an attention not listed", true, attention_not_listed},
+    {"another attention", false, another_attention},
     {"another bit of the record", false, another_bit},
     {"any bytes for a record", false, any_bytes},
 };

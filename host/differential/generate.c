@@ -1539,6 +1539,23 @@ void generate_reserve_out(struct random *random, const struct store *store,
         request->cdb_bytes = 10;
 }
 
+/* Any nexus; where all places are used, mostly one that is not registered and
+   for which nothing waits. */
+static uint64_t generate_stranger(struct random *random,
+                                  const struct ridge_unit *unit)
+{
+    bool full = generate_place(random, &unit->rights, false) == RIDGE_PLACES;
+    uint64_t nexus = random_below(random, RIDGE_NEXUSES);
+
+    for (size_t step = 0; full && step < RIDGE_NEXUSES; step++) {
+        if (key_of(&unit->rights, nexus) == 0 &&
+            unit->attentions[nexus] == RIDGE_NO_ATTENTION)
+            return nexus;
+        nexus = (nexus + 1) % RIDGE_NEXUSES;
+    }
+    return nexus;
+}
+
 /*
  * A REGISTER mostly by a stranger, or a RELEASE by a holder: the one meets
  * answer 6 where all places are used, the other 7 where it names another type.
@@ -1548,7 +1565,7 @@ static void make_refused(struct random *random, const struct store *store,
 {
     const struct ridge_rights *rights = &store->unit.rights;
     bool release = rights->type != 0 && random_percent(random, 50);
-    uint64_t nexus = random_below(random, RIDGE_NEXUS_LAST + 1);
+    uint64_t nexus = generate_stranger(random, &store->unit);
 
     if (release && rights->type >= 7)
         nexus = rights->places[generate_place(random, rights, true)].nexus;
@@ -1647,9 +1664,9 @@ static uint64_t preempted_key(struct random *random,
         return 0;
     if (rights->type != 0 && rights->type < 7 && kind < 38)
         return key_of(rights, rights->holder);
-    if (kind < 60)
+    if (kind < 66)
         return own;
-    if (kind < 92 && place != RIDGE_PLACES)
+    if (kind < 94 && place != RIDGE_PLACES)
         return rights->places[place].key;
     return generate_action_key(random, rights);
 }

@@ -1237,6 +1237,11 @@ static const struct command *find_command(uint8_t code)
     return NULL;
 }
 
+static bool is_waiting(const struct call *call)
+{
+    return call->unit->attentions[call->nexus] != RIDGE_NO_ATTENTION;
+}
+
 /* Takes away what waits for the sender; sense tells it. */
 static uint64_t deliver(struct call *call)
 {
@@ -1247,8 +1252,8 @@ static uint64_t deliver(struct call *call)
     return RIDGE_ATTENTION;
 }
 
-/* INQUIRY alone is served while something waits. The CDB's last byte is the
-   control byte; its bit 2 is NACA. */
+/* While something waits for the sender, INQUIRY alone is served. The CDB's last
+   byte is the control byte; its bit 2 is NACA. */
 static uint64_t dispatch(struct call *call, size_t cdb_bytes)
 {
     const struct command *command = find_command(call->cdb[0]);
@@ -1257,8 +1262,7 @@ static uint64_t dispatch(struct call *call, size_t cdb_bytes)
         return RIDGE_CODE_NOT_LISTED;
     if (cdb_bytes != command->cdb_bytes)
         return RIDGE_UNUSABLE;
-    if (call->unit->attentions[call->nexus] != RIDGE_NO_ATTENTION &&
-        command->serve != inquiry)
+    if (is_waiting(call) && command->serve != inquiry)
         return deliver(call);
     if ((call->cdb[cdb_bytes - 1] & 0x04) != 0)
         return wrong_in_cdb(call, cdb_bytes - 1, 2);

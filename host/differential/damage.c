@@ -253,7 +253,7 @@ static bool attention_not_listed(struct random *random, const struct lent *lent)
     uint64_t any = 4 + random_below(random, 252);
 
     lent->unit->attentions[nexus] = (uint8_t)RANDOM_CHOICE(
-        random, 4, 4, 128, 255, with_a_bit, with_a_bit, any, any);
+        random, 4, 4, 127, 128, 254, 255, with_a_bit, with_a_bit, any, any);
     return true;
 }
 

@@ -46,6 +46,9 @@ enum axis_number {
     FROM_HOLDER,
     TAKEN_OVER,
     NUMBERS,
+    BETWEEN,
+    CODES_OF_REMOVED,
+    MADE_OR_AGAIN,
     WRONG_CODES,
     AXIS_NUMBERS
 };
@@ -107,6 +110,11 @@ static const struct axis axes[AXIS_NUMBERS] = {
                          "by the holder, from nobody"}},
     [TAKEN_OVER] = {3, {"from nobody", "from one", "from several"}},
     [NUMBERS] = {2, {"one", "several"}},
+    [BETWEEN] = {4, {"from a holder to a holder", "from a holder to another",
+                     "from no holder to another",
+                     "to one that shares the sender's key"}},
+    [CODES_OF_REMOVED] = {2, {"2A/05", "2A/03"}},
+    [MADE_OR_AGAIN] = {2, {"made", "made again"}},
     [WRONG_CODES] = {5, {"4", "128", "255", "a listed one and a bit above it",
                          "another"}},
 };
@@ -132,11 +140,16 @@ enum table_number {
     UNREGISTER_HOLDER,
     UNREGISTER_OTHER,
     OTHER_KEY,
+    REGISTERED,
+    RESERVED,
     CLEARED,
     SENT_OVER,
     SENT_TO_NEXUS,
     SENT_TO_PLACE,
     SENT_TO_NUMBER,
+    SENT_BETWEEN,
+    SENT_TO_HOLDER,
+    SENT_BESIDE,
     TABLES
 };
 
@@ -174,11 +187,18 @@ static const struct {
     [UNREGISTER_OTHER] = {"one that holds nothing unregisters",
                           {TYPES_BUT_OF_ALL, WITH_ACTION}},
     [OTHER_KEY] = {"a holder changes its key", {TYPES_HELD, WITH_ACTION}},
+    [REGISTERED] = {"a stranger registers beside others",
+                    {TYPES, WITH_ACTION}},
+    [RESERVED] = {"RESERVE beside others", {TYPES_HELD, MADE_OR_AGAIN}},
     [CLEARED] = {"CLEAR", {TYPES, LEFT}},
     [SENT_OVER] = {"sent to one for whom waits", {CODES, OLD_CODES}},
     [SENT_TO_NEXUS] = {"sent to nexus", {CODES, NEXUSES}},
     [SENT_TO_PLACE] = {"sent to a place", {CODES, PLACES}},
     [SENT_TO_NUMBER] = {"sent to", {CODES, NUMBERS}},
+    [SENT_BETWEEN] = {"sent", {CODES, BETWEEN}},
+    [SENT_TO_HOLDER] = {"sent from no holder to the holder",
+                        {CODES_OF_REMOVED}},
+    [SENT_BESIDE] = {"sent while for a stranger waits", {CODES, CODES}},
 };
 
 const char *attention_table(size_t table)
@@ -602,23 +622,65 @@ static void count_release(const struct occasion *call,
         count(counts, RELEASE_BY_OTHER, doing->held, 0, 0);
 }
 
-/* Of one that was registered; its key is changed, or it is no more. */
+/* A stranger is registered, or one that was has another key, or is no more. */
 static void count_register(const struct occasion *call,
                            const struct doing *doing,
                            struct attention_counts *counts)
 {
     size_t action = action_of(call) == 0 ? 0 : 1;
-    bool gone = !is_registered(call, call->nexus);
+    bool was = was_registered(call, call->nexus);
+    bool is = is_registered(call, call->nexus);
 
-    if (!was_registered(call, call->nexus))
-        return;
-    if (gone && doing->by_holder)
+    if (was && !is && doing->by_holder)
         count(counts, UNREGISTER_HOLDER, doing->held - 1, action,
               nobody_left(doing));
-    else if (gone && doing->left > 0)
+    if (doing->left == 0)
+        return;
+    if (was && !is && !doing->by_holder)
         count(counts, UNREGISTER_OTHER, doing->held, action, 0);
-    else if (doing->by_holder && doing->left > 0)
+    if (was && is && doing->by_holder)
         count(counts, OTHER_KEY, doing->held - 1, action, 0);
+    if (!was && is)
+        count(counts, REGISTERED, doing->held, action, 0);
+}
+
+static void count_reserve(const struct occasion *call,
+                          const struct doing *doing,
+                          struct attention_counts *counts)
+{
+    size_t made = type_index(call->after->rights.type) - 1;
+
+    if (doing->left > 0)
+        count(counts, RESERVED, made, doing->held == 0 ? 0 : 1, 0);
+}
+
+/* Who sent it to whom; nobody is a holder where there is no reservation. */
+static void count_between(const struct occasion *call, uint64_t nexus,
+                          size_t code, struct attention_counts *counts)
+{
+    const struct ridge_rights *rights = &call->unit->rights;
+    bool from_holder = is_holder(rights, call->nexus);
+    bool to_holder = is_holder(rights, nexus);
+
+    if (from_holder)
+        count(counts, SENT_BETWEEN, code, to_holder ? 0 : 1, 0);
+    else if (to_holder && code < 2)
+        count(counts, SENT_TO_HOLDER, code, 0, 0);
+    else
+        count(counts, SENT_BETWEEN, code, 2, 0);
+    if (key_of(rights, call->nexus) == key_of(rights, nexus))
+        count(counts, SENT_BETWEEN, code, 3, 0);
+}
+
+/* What waits meanwhile for those that are not registered, and stays. */
+static void count_strangers(const struct occasion *call, size_t code,
+                            struct attention_counts *counts)
+{
+    for (uint64_t nexus = 0; nexus < RIDGE_NEXUSES; nexus++) {
+        if (!was_registered(call, nexus) && waits(call, nexus))
+            count(counts, SENT_BESIDE, code,
+                  call->unit->attentions[nexus] - 1u, 0);
+    }
 }
 
 /* Each attention that was sent, and to how many. */
@@ -640,10 +702,13 @@ static void count_sent(const struct occasion *call,
         count(counts, SENT_OVER, code - 1u, call->unit->attentions[nexus], 0);
         count(counts, SENT_TO_NEXUS, code - 1u, (size_t)nexus, 0);
         count(counts, SENT_TO_PLACE, code - 1u, place, 0);
+        count_between(call, nexus, code - 1u, counts);
     }
     for (size_t code = 1; code < 4; code++) {
-        if (sent[code] > 0)
-            count(counts, SENT_TO_NUMBER, code - 1, sent[code] == 1 ? 0 : 1, 0);
+        if (sent[code] == 0)
+            continue;
+        count(counts, SENT_TO_NUMBER, code - 1, sent[code] == 1 ? 0 : 1, 0);
+        count_strangers(call, code - 1, counts);
     }
 }
 
@@ -661,6 +726,9 @@ static void count_reserve_out(const struct occasion *call,
     case 0:
     case 6:
         count_register(call, &doing, counts);
+        break;
+    case 1:
+        count_reserve(call, &doing, counts);
         break;
     case 3:
         count(counts, CLEARED, doing.held, doing.removed == 0 ? 1 : 0, 0);

@@ -13,7 +13,7 @@
 
 #include "occasions.h"
 
-enum { ATTENTION_TABLES = 25, ATTENTION_CELLS = 64, ATTENTION_NAME_ROOM = 128 };
+enum { ATTENTION_TABLES = 30, ATTENTION_CELLS = 64, ATTENTION_NAME_ROOM = 128 };
 
 struct attention_counts {
     uint64_t of[ATTENTION_TABLES][ATTENTION_CELLS];

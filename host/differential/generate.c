@@ -374,8 +374,8 @@ void generate_attentions(struct random *random,
                 : RIDGE_NO_ATTENTION);
 }
 
-/* Types 7 and 8 are drawn twice as often as the others: every registrant can
-   end them, so they stand for a shorter time. */
+/* Types 7 and 8 are drawn more often than the others: every registrant can end
+   them, so they stand for a shorter time. */
 void generate_rights(struct random *random, struct ridge_rights *rights)
 {
     rights->generation = (uint32_t)RANDOM_CHOICE(
@@ -384,7 +384,8 @@ void generate_rights(struct random *random, struct ridge_rights *rights)
     if (random_percent(random, 85))
         generate_reservation(
             random, rights,
-            (uint32_t)RANDOM_CHOICE(random, 1, 3, 5, 6, 7, 7, 8, 8));
+            (uint32_t)RANDOM_CHOICE(random, 1, 1, 3, 3, 5, 5, 6, 6, 7, 7, 7, 8,
+                                    8, 8));
 }
 
 void generate_store(struct random *random, struct store *store)

@@ -548,16 +548,16 @@ static bool print_waiting_codes(const struct figures *figures, uint64_t steps)
 {
     const uint64_t *codes = figures->waiting_codes;
     bool enough = print_count("of these READ, not shut out",
-                              codes[0x28] + codes[0x88], steps / 1000);
+                              codes[0x28] + codes[0x88], steps / 2000);
 
     enough &= print_count("of these GET LBA STATUS, not shut out",
-                          figures->waiting_status, steps / 1000);
+                          figures->waiting_status, steps / 2000);
     enough &= print_count("of these WRITE, not shut out",
-                          codes[0x2A] + codes[0x8A], steps / 1000);
+                          codes[0x2A] + codes[0x8A], steps / 2000);
     enough &= print_count("of these WRITE SAME, not shut out", codes[0x93],
-                          steps / 1000);
+                          steps / 2000);
     enough &= print_count("of these UNMAP, not shut out", codes[0x42],
-                          steps / 1000);
+                          steps / 2000);
     return enough;
 }
 
@@ -582,7 +582,7 @@ static bool print_waiting(const struct figures *figures, uint64_t steps)
     enough &= print_count("of these reservation-out",
                           figures->waiting_reserve_out, steps / 500);
     enough &= print_count("of these by the one that holds",
-                          figures->waiting_holders, steps / 5000);
+                          figures->waiting_holders, steps / 10000);
     return enough & print_waiting_codes(figures, steps);
 }
 

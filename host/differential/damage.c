@@ -244,7 +244,8 @@ static bool nobody_registered(struct random *random, const struct lent *lent)
 
 /* ---- Attentions ---- */
 
-/* One above the three, one that is among them if a bit is cut, or any. */
+/* The next after the three, one that is among them if a bit is cut, one at an
+   end of fewer bits, or any. */
 static bool attention_not_listed(struct random *random, const struct lent *lent)
 {
     uint64_t nexus = random_below(random, RIDGE_NEXUSES);
@@ -253,7 +254,8 @@ static bool attention_not_listed(struct random *random, const struct lent *lent)
     uint64_t any = 4 + random_below(random, 252);
 
     lent->unit->attentions[nexus] = (uint8_t)RANDOM_CHOICE(
-        random, 4, 4, 127, 128, 254, 255, with_a_bit, with_a_bit, any, any);
+        random, 4, 4, 5, 8, 16, 32, 64, 127, 128, 128, 129, 254, 255, 255,
+        with_a_bit, with_a_bit, any);
     return true;
 }
 

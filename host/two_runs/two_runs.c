@@ -316,7 +316,7 @@ static void follow_removed(struct run *run)
     }
 }
 
-/* Whether a call changed what waits for others, or the reverse: a notice. */
+/* Whether the reservation-out call in hand let others know of something. */
 static bool has_sent(const struct run *run)
 {
     const struct side *side = &run->left;

@@ -287,6 +287,9 @@ static bool any_bytes(struct random *random, const struct lent *lent)
 
 /* ---- All ways ---- */
 
+/* The first ways are those of the map. */
+enum { MAP_WAYS = 2, ATTENTION_WAY = 15 };
+
 static const struct way {
     const char *name;
     bool invalid;
@@ -307,19 +310,26 @@ static const struct way {
     {"a holder of no reservation", true, holder_of_no_reservation},
     {"a holder beside all registrants", true, holder_beside_all},
     {"a reservation and nobody registered", true, nobody_registered},
-    {"an attention not listed", true, attention_not_listed},
+    [ATTENTION_WAY] = {"an attention not listed", true, attention_not_listed},
     {"another attention", false, another_attention},
     {"another bit of the record", false, another_bit},
     {"any bytes for a record", false, any_bytes},
 };
 
-enum { MAP_WAYS = 2 };
+/* The map of a large store has most that can be wrong; and there are 16
+   attentions, each of which may be overlooked. */
+static size_t choose_way(struct random *random, const struct lent *lent)
+{
+    if (lent->slots >= LARGE_SLOTS && random_percent(random, 50))
+        return (size_t)random_below(random, MAP_WAYS);
+    if (random_percent(random, 20))
+        return ATTENTION_WAY;
+    return (size_t)random_below(random, DAMAGE_WAYS);
+}
 
-/* The map of a large store has most that can be wrong. */
 size_t damage_store(struct random *random, const struct lent *lent)
 {
-    bool map = lent->slots >= LARGE_SLOTS && random_percent(random, 50);
-    size_t way = (size_t)random_below(random, map ? MAP_WAYS : DAMAGE_WAYS);
+    size_t way = choose_way(random, lent);
 
     while (!ways[way].damage(random, lent))
         way = (way + 1) % DAMAGE_WAYS;

@@ -451,7 +451,7 @@ static size_t reason_of(const struct occasion *call)
     return call->cdb[0] == 0x12 ? 1 : 2;
 }
 
-/* A nexus above 15 whose low bits are those of one for which something waits. */
+/* A nexus above 15 with the low bits of one for which something waits. */
 static void count_above(const struct occasion *call,
                         struct attention_counts *counts)
 {

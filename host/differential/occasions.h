@@ -5,8 +5,8 @@
  * every set of fields that can be wrong at once; for Q-8 in each format each
  * answer, each address that an answer may have to tell, which descriptor of an
  * UNMAP fails, how long the sense buffer is and what it held before, and the
- * numbers that are no format. A rule that no call came near was not tried. Those
- * of Q-6 are in attentions.h.
+ * numbers that are no format. A rule that no call came near was not tried.
+ * Those of Q-6 are in attentions.h.
  */
 
 #ifndef OCCASIONS_H

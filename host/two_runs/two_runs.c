@@ -10,17 +10,17 @@
  *
  * The two stores of a pair have the same format of sense, equal capacity,
  * registrations, reservation, generation and attentions; slots, maps and blocks
- * differ. Both get the same reservation-out calls (operation code 5Fh), the same
- * calls by nexuses then shut out and the same calls by nexuses for which then an
- * attention waits, in the same order with the same lent data and sense buffers,
- * the whole pool lent each time. Between these, each gets other calls of its
- * own.
+ * differ. Both get the same reservation-out calls (operation code 5Fh), the
+ * same calls by nexuses then shut out and the same calls by nexuses for which
+ * then an attention waits, in the same order with the same lent data and sense
+ * buffers, the whole pool lent each time. Between these, each gets other calls
+ * of its own.
  *
  * Then each of the common calls gives the same answer, returned count, data-in
  * and sense in both, to the last byte, so the place of a wrong field too, and
- * leaves equal records; none changes a block or a mapping. A call by a nexus for
- * which an attention waits changes that one at most, and no other call that is
- * not a reservation-out call changes anything of the record.
+ * leaves equal records; none changes a block or a mapping. A call by a nexus
+ * for which an attention waits changes that one at most, and no other call that
+ * is not a reservation-out call changes anything of the record.
  *
  * Exit status: 0 all held and enough was compared; 1 something did not hold,
  * which is printed; 2 too little compared (asked of long runs alone), or bad
@@ -249,7 +249,7 @@ static void hold_stored(struct run *run)
         fail(run, "a block or a mapping has changed");
     if (is_waiting(&left->before.unit, nexus)) {
         if (!others_kept(left, nexus) || !others_kept(right, nexus))
-            fail(run, "a call has changed more than what waited for its sender");
+            fail(run, "more has changed than what waited for the sender");
     } else if (!is_reserve_out(&run->request) &&
                (!unit_kept(left) || !unit_kept(right))) {
         fail(run, "a shut-out call has changed the record");

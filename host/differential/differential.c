@@ -26,11 +26,11 @@
  * has one; no byte past those is written. A format that is none is answered 11.
  *
  * Something waits for some nexuses, registered or not, and calls let others
- * know of what they did. What Q-6 says of all calls holds: while something waits
- * for the sender every command but INQUIRY is answered 13, if not 1 or 11, and
- * 13 takes away that and changes nothing else; afterwards there waits for each
- * nexus what was there before, or what it has to know by what the call did to
- * registrations and reservation.
+ * know of what they did. What Q-6 says of all calls holds: while something
+ * waits for the sender every command but INQUIRY is answered 13, if not 1 or
+ * 11, and 13 takes away that and changes nothing else; afterwards there waits
+ * for each nexus what was there before, or what it has to know by what the call
+ * did to registrations and reservation.
  *
  * Exit status: 0 no difference and every answer met often enough; 1 a
  * difference, which is printed; 2 an answer, command, take-over, cell of the

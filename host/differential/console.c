@@ -96,6 +96,9 @@ void console_store(uint64_t format, const struct ridge_unit *unit,
     for (size_t place = 0; place < RIDGE_PLACES; place++)
         printf(" %" PRIX64 ":%" PRIX64, rights->places[place].nexus,
                rights->places[place].key);
+    printf("\n  attentions");
+    for (size_t nexus = 0; nexus < RIDGE_NEXUSES; nexus++)
+        printf(" %X", unit->attentions[nexus]);
     printf("\n  owners of %zu slots", slots);
     for (size_t slot = 0; slot < slots; slot++)
         printf(" %" PRIX64, owners[slot]);

@@ -242,6 +242,32 @@ static bool nobody_registered(struct random *random, const struct lent *lent)
     return true;
 }
 
+/* ---- Attentions ---- */
+
+/* The next after the three, one that is among them if a bit is cut, one at an
+   end of fewer bits, or any. */
+static bool attention_not_listed(struct random *random, const struct lent *lent)
+{
+    uint64_t nexus = random_below(random, RIDGE_NEXUSES);
+    uint64_t listed = random_below(random, RIDGE_RESERVATIONS_RELEASED + 1);
+    uint64_t with_a_bit = listed | UINT64_C(1) << (2 + random_below(random, 6));
+    uint64_t any = 4 + random_below(random, 252);
+
+    lent->unit->attentions[nexus] = (uint8_t)RANDOM_CHOICE(
+        random, 4, 4, 5, 8, 16, 32, 64, 127, 128, 128, 129, 254, 255, 255,
+        with_a_bit, with_a_bit, any);
+    return true;
+}
+
+static bool another_attention(struct random *random, const struct lent *lent)
+{
+    uint64_t nexus = random_below(random, RIDGE_NEXUSES);
+
+    lent->unit->attentions[nexus] =
+        (uint8_t)random_below(random, RIDGE_RESERVATIONS_RELEASED + 1);
+    return true;
+}
+
 /* ---- The record as bytes ---- */
 
 static bool another_bit(struct random *random, const struct lent *lent)
@@ -260,6 +286,9 @@ static bool any_bytes(struct random *random, const struct lent *lent)
 }
 
 /* ---- All ways ---- */
+
+/* The first ways are those of the map. */
+enum { MAP_WAYS = 2, ATTENTION_WAY = 15 };
 
 static const struct way {
     const char *name;
@@ -281,17 +310,26 @@ static const struct way {
     {"a holder of no reservation", true, holder_of_no_reservation},
     {"a holder beside all registrants", true, holder_beside_all},
     {"a reservation and nobody registered", true, nobody_registered},
+    [ATTENTION_WAY] = {"an attention not listed", true, attention_not_listed},
+    {"another attention", false, another_attention},
     {"another bit of the record", false, another_bit},
     {"any bytes for a record", false, any_bytes},
 };
 
-enum { MAP_WAYS = 2 };
+/* The map of a large store has most that can be wrong; and there are 16
+   attentions, each of which may be overlooked. */
+static size_t choose_way(struct random *random, const struct lent *lent)
+{
+    if (lent->slots >= LARGE_SLOTS && random_percent(random, 50))
+        return (size_t)random_below(random, MAP_WAYS);
+    if (random_percent(random, 20))
+        return ATTENTION_WAY;
+    return (size_t)random_below(random, DAMAGE_WAYS);
+}
 
-/* The map of a large store has most that can be wrong. */
 size_t damage_store(struct random *random, const struct lent *lent)
 {
-    bool map = lent->slots >= LARGE_SLOTS && random_percent(random, 50);
-    size_t way = (size_t)random_below(random, map ? MAP_WAYS : DAMAGE_WAYS);
+    size_t way = choose_way(random, lent);
 
     while (!ways[way].damage(random, lent))
         way = (way + 1) % DAMAGE_WAYS;

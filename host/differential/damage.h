@@ -9,7 +9,7 @@
 
 #include "generate.h"
 
-enum { DAMAGE_WAYS = 17 };
+enum { DAMAGE_WAYS = 19 };
 
 /* A store that is lent: what damage may change of it. */
 struct lent {

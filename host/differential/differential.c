@@ -12,7 +12,7 @@
  * sides. After each call: the answers and the returned counts are equal, so is
  * every byte of every buffer, and what 01 says of all calls holds (a refusal
  * changes nothing stored, nor does a command that only asks; sense is written
- * for the answers 1 to 8 only, data-in not past the returned bytes, CDB,
+ * for the answers 1 to 8 and 13 only, data-in not past the returned bytes, CDB,
  * data-out and guards never; 11 for each of the reasons that come first in 01's
  * order).
  *
@@ -25,10 +25,17 @@
  * the first descriptor that fails, where the format holds it, no other answer
  * has one; no byte past those is written. A format that is none is answered 11.
  *
+ * Something waits for some nexuses, registered or not, and calls let others
+ * know of what they did. What Q-6 says of all calls holds: while something
+ * waits for the sender every command but INQUIRY is answered 13, if not 1 or
+ * 11, and 13 takes away that and changes nothing else; afterwards there waits
+ * for each nexus what was there before, or what it has to know by what the call
+ * did to registrations and reservation.
+ *
  * Exit status: 0 no difference and every answer met often enough; 1 a
  * difference, which is printed; 2 an answer, command, take-over, cell of the
- * conflict rule, occasion of Q-1, Q-2, Q-4 or Q-8 or damage too rare (asked of
- * long runs alone), bad usage.
+ * conflict rule, occasion of Q-1, Q-2, Q-4, Q-6 or Q-8 or damage too rare
+ * (asked of long runs alone), bad usage.
  */
 
 #include <inttypes.h>
@@ -37,6 +44,7 @@
 #include <string.h>
 
 #include "../second/second.h"
+#include "attentions.h"
 #include "cells.h"
 #include "console.h"
 #include "damage.h"
@@ -50,7 +58,10 @@ enum {
     GUARD = 64,         /* bytes before and after each buffer */
     EXTRA_SLOTS = 2,    /* so that 129 slots can be lent */
     ROOM_SLOTS = RIDGE_SLOTS + EXTRA_SLOTS,
-    ROWS = 14           /* commands that are counted apart */
+    ROWS = 14,          /* commands that are counted apart */
+    NOTICES = 11,       /* of 100 calls, those that others must know of, */
+    ATTENDED = 7,       /* and those of one for whom something waits */
+    RENEWED = 6         /* of 100 calls, those before which others register */
 };
 
 enum part { UNIT, OWNERS, MEDIUM, CDB, DATA_OUT, DATA_IN, SENSE, PARTS };
@@ -114,6 +125,7 @@ struct figures {
     uint64_t zero_keys_refused[16];
     uint64_t cells[CELLS]; /* calls that tell what the cell says */
     uint64_t occasions[OCCASIONS];
+    struct attention_counts attentions;
 };
 
 struct run {
@@ -125,6 +137,7 @@ struct run {
     struct world before;
     struct world ridge;
     struct world second;
+    struct world without; /* the same call where nothing waits for its sender */
     uint8_t sense_of_cdb[SENSE_ROOM]; /* as the last answer 2 left it, */
     uint8_t sense_of_list[SENSE_ROOM]; /* the last 5 */
     uint8_t sense_of_address[SENSE_ROOM]; /* and the last 3 or 8 */
@@ -340,7 +353,15 @@ static void hold_address(struct run *run, const struct told *told)
         fail(run, "sense has another address than the call");
 }
 
-/* What 01, Q-4 and Q-8 say of sense, whichever command it is. */
+/* What waits for the sender of the call in hand. */
+static uint8_t waiting(const struct run *run)
+{
+    return run->lending.nexus > RIDGE_NEXUS_LAST
+               ? RIDGE_NO_ATTENTION
+               : run->before.unit.attentions[run->lending.nexus];
+}
+
+/* What 01, Q-4, Q-6 and Q-8 say of sense, whichever command it is. */
 static void hold_sense(struct run *run)
 {
     uint64_t format = run->lending.format;
@@ -352,16 +373,78 @@ static void hold_sense(struct run *run)
         return;
     if (!sense_read(format, run->ridge.sense, &told))
         fail(run, "sense is laid out in another way than its format");
-    if (memcmp(told.codes, sense_codes(run->ridge.answer), SENSE_CODES) != 0)
+    if (memcmp(told.codes, sense_codes(run->ridge.answer, waiting(run)),
+               SENSE_CODES) != 0)
         fail(run, "key and codes of sense are those of another answer");
     hold_place(run, &told);
     hold_address(run, &told);
+}
+
+/* The call in hand and what came of it, once the libraries agree on that. */
+static struct occasion describe(const struct run *run)
+{
+    const struct world *before = &run->before;
+    const size_t *bytes = run->lending.bytes;
+    bool sound = run->lending.whole && bytes[CDB] != 0 &&
+                 run->lending.nexus <= RIDGE_NEXUS_LAST;
+    bool sized = bytes[OWNERS] == 8 * run->store.slots &&
+                 bytes[MEDIUM] == RIDGE_BLOCK_BYTES * run->store.slots;
+    struct occasion call = {.format = run->lending.format,
+                            .sound = sound,
+                            .sized = sized,
+                            .unit = &before->unit,
+                            .after = &run->second.unit,
+                            .owners = before->owners,
+                            .slots = bytes[OWNERS] / 8,
+                            .nexus = run->lending.nexus,
+                            .cdb = before->cdb,
+                            .cdb_bytes = bytes[CDB],
+                            .data_out = before->data_out,
+                            .data_out_bytes = bytes[DATA_OUT],
+                            .data_in = run->second.data_in,
+                            .data_in_bytes = bytes[DATA_IN],
+                            .sense = before->sense,
+                            .sense_bytes = bytes[SENSE],
+                            .answer = run->second.answer,
+                            .without = run->without.answer,
+                            .returned = run->second.returned};
+
+    return call;
+}
+
+/* What Q-6 says of a command that was not unusable: when it is answered 13, and
+   what waits for each nexus afterwards. */
+static void hold_attentions(struct run *run)
+{
+    struct occasion call = describe(run);
+    bool told = call.answer == RIDGE_ATTENTION;
+
+    if (call.answer == RIDGE_UNUSABLE)
+        return;
+    if (call.answer != RIDGE_CODE_NOT_LISTED && told != attention_is_due(&call))
+        fail(run, "13 is answered, or is not, against Q-6");
+    for (uint64_t nexus = 0; nexus < RIDGE_NEXUSES; nexus++) {
+        if (call.after->attentions[nexus] != attention_due(&call, nexus))
+            fail(run, "there waits for a nexus what Q-6 does not say");
+    }
+}
+
+/* An answer 13 leaves the record as it was, but for what waited for the
+   sender. */
+static void hold_told(struct run *run)
+{
+    struct ridge_unit due = run->before.unit;
+
+    due.attentions[run->lending.nexus] = RIDGE_NO_ATTENTION;
+    if (memcmp(&due, &run->ridge.unit, sizeof due) != 0)
+        fail(run, "13 changed more than what waited for the sender");
 }
 
 /* What 01 says of every call, whichever command it is. */
 static void hold_rules(struct run *run)
 {
     bool good = run->ridge.answer == RIDGE_GOOD;
+    bool told = run->ridge.answer == RIDGE_ATTENTION;
 
     if (run->lending.due_11 && run->ridge.answer != RIDGE_UNUSABLE)
         fail(run, "another answer where 11 is due");
@@ -370,9 +453,12 @@ static void hold_rules(struct run *run)
     if (run->ridge.returned > run->lending.bytes[DATA_IN])
         fail(run, "more bytes returned than lent");
     for (enum part part = UNIT; part <= MEDIUM; part++)
-        hold_unchanged(run, part, good && may_store(run)
-                                      ? run->lending.bytes[part]
-                                      : 0);
+        hold_unchanged(run, part,
+                       (good && may_store(run)) || (told && part == UNIT)
+                           ? run->lending.bytes[part]
+                           : 0);
+    if (told)
+        hold_told(run);
     hold_unchanged(run, CDB, 0);
     hold_unchanged(run, DATA_OUT, 0);
     hold_unchanged(run, DATA_IN, (size_t)run->ridge.returned);
@@ -637,30 +723,25 @@ static void count_cell(struct run *run, uint8_t code)
         run->figures.cells[cell]++;
 }
 
+/* What the call in hand is answered where nothing waits for its sender. */
+static void execute_without(struct run *run)
+{
+    for (enum part part = 0; part < PARTS; part++)
+        memcpy(part_of(&run->without, part), part_of(&run->before, part),
+               run->lending.bytes[part]);
+    run->without.unit.attentions[run->lending.nexus] = RIDGE_NO_ATTENTION;
+    execute(&run->lending, &run->without, second_execute);
+}
+
 static void count_occasions(struct run *run)
 {
-    const struct world *before = &run->before;
-    const size_t *bytes = run->lending.bytes;
-    bool sound = run->lending.whole && bytes[CDB] != 0 &&
-                 run->lending.nexus <= RIDGE_NEXUS_LAST;
-    struct occasion call = {.format = run->lending.format,
-                            .sound = sound,
-                            .unit = &before->unit,
-                            .owners = before->owners,
-                            .slots = bytes[OWNERS] / 8,
-                            .nexus = run->lending.nexus,
-                            .cdb = before->cdb,
-                            .cdb_bytes = bytes[CDB],
-                            .data_out = before->data_out,
-                            .data_out_bytes = bytes[DATA_OUT],
-                            .data_in = run->second.data_in,
-                            .data_in_bytes = bytes[DATA_IN],
-                            .sense = before->sense,
-                            .sense_bytes = bytes[SENSE],
-                            .answer = run->second.answer,
-                            .returned = run->second.returned};
+    struct occasion call;
 
+    if (run->second.answer == RIDGE_ATTENTION)
+        execute_without(run);
+    call = describe(run);
     occasions_count(&call, run->figures.occasions);
+    attentions_count(&call, &run->figures.attentions);
 }
 
 static void count_call(struct run *run)
@@ -684,17 +765,26 @@ static void count_call(struct run *run)
 }
 
 /* Types 7 and 8 stand seldom, and much of what is rare wants them. */
+static void make_call(struct run *run)
+{
+    const struct store *store = &run->store;
+    unsigned rare = store->unit.rights.type >= 7 ? 13 : 7;
+    uint64_t kind = random_below(&run->random, 100);
+
+    if (kind < rare)
+        generate_rare(&run->random, store, &run->request);
+    else if (kind < rare + NOTICES)
+        generate_notice(&run->random, store, &run->request);
+    else if (kind >= rare + NOTICES + ATTENDED ||
+             !generate_attended(&run->random, store, &run->request))
+        generate_request(&run->random, store,
+                         generate_nexus(&run->random, &store->unit.rights),
+                         &run->request);
+}
+
 static void one_call(struct run *run)
 {
-    unsigned rare = run->store.unit.rights.type >= 7 ? 12 : 5;
-
-    if (random_percent(&run->random, rare))
-        generate_rare(&run->random, &run->store, &run->request);
-    else
-        generate_request(&run->random, &run->store,
-                         generate_nexus(&run->random,
-                                        &run->store.unit.rights),
-                         &run->request);
+    make_call(run);
     prepare(run);
     copy_worlds(run);
     run->figures.calls++;
@@ -702,6 +792,7 @@ static void one_call(struct run *run)
     execute(&run->lending, &run->second, second_execute);
     compare_libraries(run);
     hold_rules(run);
+    hold_attentions(run);
     count_call(run);
     keep_sense(run);
     if (run->lending.whole)
@@ -764,6 +855,8 @@ static bool fresh_store(struct run *run)
         return false;
     if (run->ridge.answer != RIDGE_GOOD)
         fail(run, "good bounds are refused");
+    if (generate_waiting(&run->random, &run->ridge.unit) != RIDGE_NEXUSES)
+        fail(run, "something waits in a fresh store");
     run->store.format = format;
     run->store.slots = slots;
     keep_store(run);
@@ -786,7 +879,7 @@ static bool print_answers(const struct figures *figures, uint64_t floor)
 {
     bool enough = true;
 
-    for (unsigned answer = 0; answer <= RIDGE_BUFFER_SHORT; answer++) {
+    for (unsigned answer = 0; answer <= RIDGE_ATTENTION; answer++) {
         char name[32];
 
         if (answer == 9)
@@ -898,6 +991,29 @@ static bool print_occasions(const struct figures *figures, uint64_t floor)
     return enough;
 }
 
+/* Of each table of Q-6 the rarest cell. */
+static bool print_attentions(const struct figures *figures, uint64_t floor)
+{
+    char name[ATTENTION_NAME_ROOM];
+    bool enough = true;
+
+    for (size_t table = 0; table < ATTENTION_TABLES; table++) {
+        const uint64_t *met = figures->attentions.of[table];
+        size_t least = 0;
+
+        for (size_t cell = 0; cell < attention_cells(table); cell++) {
+            attention_cell_name(table, cell, name);
+            enough &= often_enough(name, met[cell], floor);
+            if (met[cell] < met[least])
+                least = cell;
+        }
+        attention_cell_name(table, least, name);
+        printf("rarest of %zu cells: %s: %" PRIu64 "\n",
+               attention_cells(table), name, met[least]);
+    }
+    return enough;
+}
+
 static bool print_damages(const struct figures *figures, uint64_t floor)
 {
     bool enough = true;
@@ -911,6 +1027,8 @@ static bool print_damages(const struct figures *figures, uint64_t floor)
     return enough;
 }
 
+/* A history in which others are preempted and cleared is left with few that are
+   registered; so at times there are other ones. */
 static void run_calls(struct run *run, uint64_t calls)
 {
     struct progress progress = console_progress("differential", "calls", calls);
@@ -921,6 +1039,8 @@ static void run_calls(struct run *run, uint64_t calls)
             left = 1 + random_below(&run->random, 100);
             if (random_percent(&run->random, 50) || !fresh_store(run))
                 generate_store(&run->random, &run->store);
+        } else if (random_percent(&run->random, RENEWED)) {
+            generate_rights(&run->random, &run->store.unit.rights);
         }
         one_call(run);
         left--;
@@ -939,6 +1059,7 @@ static bool print_figures(const struct figures *figures)
     enough &= print_zero_keys(figures, floor / 20);
     enough &= print_cells(figures, floor / 5);
     enough &= print_occasions(figures, floor / 20);
+    enough &= print_attentions(figures, floor / 20);
     enough &= print_damages(figures, floor / 2);
     return enough;
 }

@@ -303,9 +303,22 @@ bool is_shut_out(const struct ridge_rights *rights, uint64_t nexus)
     }
 }
 
+/* One that another has, in as many cases, or any. */
+static uint64_t shared_key(struct random *random,
+                           const struct ridge_rights *rights, unsigned percent)
+{
+    size_t place = generate_place(random, rights, true);
+
+    if (place != RIDGE_PLACES && random_percent(random, percent))
+        return rights->places[place].key;
+    return generate_key(random);
+}
+
 void generate_registrations(struct random *random, struct ridge_rights *rights)
 {
-    unsigned fill = (unsigned)RANDOM_CHOICE(random, 0, 30, 60, 90, 100, 100);
+    unsigned fill = (unsigned)RANDOM_CHOICE(random, 0, 10, 30, 60, 90, 100,
+                                            100);
+    unsigned shared = (unsigned)RANDOM_CHOICE(random, 0, 30, 60, 60);
 
     memset(rights->places, 0, sizeof rights->places);
     rights->type = 0;
@@ -316,8 +329,8 @@ void generate_registrations(struct random *random, struct ridge_rights *rights)
         while (key_of(rights, nexus) != 0)
             nexus = (nexus + 1) % (RIDGE_NEXUS_LAST + 1);
         if (random_percent(random, fill)) {
+            rights->places[place].key = shared_key(random, rights, shared);
             rights->places[place].nexus = nexus;
-            rights->places[place].key = generate_key(random);
         }
     }
 }
@@ -348,22 +361,40 @@ void generate_reservation(struct random *random, struct ridge_rights *rights,
         type == 7 || type == 8 ? 0 : rights->places[place].nexus;
 }
 
-/* Types 7 and 8 are drawn twice as often as the others: every registrant can
-   end them, so they stand for a shorter time. */
-void generate_store(struct random *random, struct store *store)
+void generate_attentions(struct random *random,
+                         uint8_t attentions[RIDGE_NEXUSES])
 {
-    struct ridge_rights *rights = &store->unit.rights;
+    unsigned fill = (unsigned)RANDOM_CHOICE(random, 0, 0, 0, 0, 10, 25, 50,
+                                            100);
 
-    store->format = generate_format(random);
-    store->slots = generate_slots(random);
-    store->unit.capacity = generate_capacity(random, store->slots);
+    for (size_t nexus = 0; nexus < RIDGE_NEXUSES; nexus++)
+        attentions[nexus] = (uint8_t)(
+            random_percent(random, fill)
+                ? 1 + random_below(random, RIDGE_RESERVATIONS_RELEASED)
+                : RIDGE_NO_ATTENTION);
+}
+
+/* Types 7 and 8 are drawn more often than the others: every registrant can end
+   them, so they stand for a shorter time. */
+void generate_rights(struct random *random, struct ridge_rights *rights)
+{
     rights->generation = (uint32_t)RANDOM_CHOICE(
         random, 0, 7, UINT32_MAX - 1, UINT32_MAX, 0x01020304);
     generate_registrations(random, rights);
     if (random_percent(random, 85))
         generate_reservation(
             random, rights,
-            (uint32_t)RANDOM_CHOICE(random, 1, 3, 5, 6, 7, 7, 8, 8));
+            (uint32_t)RANDOM_CHOICE(random, 1, 1, 3, 3, 5, 5, 6, 6, 7, 7, 7, 8,
+                                    8, 8));
+}
+
+void generate_store(struct random *random, struct store *store)
+{
+    store->format = generate_format(random);
+    store->slots = generate_slots(random);
+    store->unit.capacity = generate_capacity(random, store->slots);
+    generate_rights(random, &store->unit.rights);
+    generate_attentions(random, store->unit.attentions);
     generate_map(random, store);
 }
 
@@ -1509,6 +1540,23 @@ void generate_reserve_out(struct random *random, const struct store *store,
         request->cdb_bytes = 10;
 }
 
+/* Any nexus; where all places are used, mostly one that is not registered and
+   for which nothing waits. */
+static uint64_t generate_stranger(struct random *random,
+                                  const struct ridge_unit *unit)
+{
+    bool full = generate_place(random, &unit->rights, false) == RIDGE_PLACES;
+    uint64_t nexus = random_below(random, RIDGE_NEXUSES);
+
+    for (size_t step = 0; full && step < RIDGE_NEXUSES; step++) {
+        if (key_of(&unit->rights, nexus) == 0 &&
+            unit->attentions[nexus] == RIDGE_NO_ATTENTION)
+            return nexus;
+        nexus = (nexus + 1) % RIDGE_NEXUSES;
+    }
+    return nexus;
+}
+
 /*
  * A REGISTER mostly by a stranger, or a RELEASE by a holder: the one meets
  * answer 6 where all places are used, the other 7 where it names another type.
@@ -1518,7 +1566,7 @@ static void make_refused(struct random *random, const struct store *store,
 {
     const struct ridge_rights *rights = &store->unit.rights;
     bool release = rights->type != 0 && random_percent(random, 50);
-    uint64_t nexus = random_below(random, RIDGE_NEXUS_LAST + 1);
+    uint64_t nexus = generate_stranger(random, &store->unit);
 
     if (release && rights->type >= 7)
         nexus = rights->places[generate_place(random, rights, true)].nexus;
@@ -1565,4 +1613,137 @@ void generate_rare(struct random *random, const struct store *store,
         generate_take_over(random, store, request);
     else
         make_refused(random, store, request);
+}
+
+/* ---- Calls that others must know of, and calls of those ---- */
+
+/* A registered nexus for which nothing waits, with that key if it is not 0; if
+   there is none, the nexus in the first place that was tried. */
+static uint64_t ready_nexus(struct random *random,
+                            const struct ridge_unit *unit, uint64_t key)
+{
+    const struct ridge_place *places = unit->rights.places;
+    size_t first = generate_place(random, &unit->rights, true);
+
+    for (size_t step = 0; step < RIDGE_PLACES; step++) {
+        const struct ridge_place *place =
+            &places[(first + step) % RIDGE_PLACES];
+
+        if (place->key != 0 && (key == 0 || place->key == key) &&
+            unit->attentions[place->nexus] == RIDGE_NO_ATTENTION)
+            return place->nexus;
+    }
+    return places[first].nexus;
+}
+
+/* Where one nexus holds, mostly that one, or one that shares its key. */
+static uint64_t notice_sender(struct random *random,
+                              const struct ridge_unit *unit)
+{
+    const struct ridge_rights *rights = &unit->rights;
+    bool one_holds = rights->type != 0 && rights->type < 7;
+    uint64_t kind = random_below(random, 100);
+
+    if (generate_place(random, rights, true) == RIDGE_PLACES)
+        return random_below(random, RIDGE_NEXUSES);
+    if (one_holds && kind < 30 && unit->attentions[rights->holder] == 0)
+        return rights->holder;
+    return ready_nexus(random, unit,
+                       one_holds && kind < 52 ? key_of(rights, rights->holder)
+                                              : 0);
+}
+
+/* The holder's key, the sender's own, 0, or that of any; the sender is
+   registered mostly, and then there is one. */
+static uint64_t preempted_key(struct random *random,
+                              const struct ridge_rights *rights, uint64_t own)
+{
+    uint64_t kind = random_below(random, 100);
+    size_t place = generate_place(random, rights, true);
+
+    if (rights->type >= 7 && kind < 45)
+        return 0;
+    if (rights->type != 0 && rights->type < 7 && kind < 38)
+        return key_of(rights, rights->holder);
+    if (kind < 66)
+        return own;
+    if (kind < 94 && place != RIDGE_PLACES)
+        return rights->places[place].key;
+    return generate_action_key(random, rights);
+}
+
+/* Unregistering mostly, else another key; or whom PREEMPT is to remove. */
+static uint64_t notice_key(struct random *random, uint64_t action,
+                           const struct ridge_rights *rights, uint64_t own)
+{
+    if (action == 4)
+        return preempted_key(random, rights, own);
+    return random_percent(random, 80) ? 0 : generate_key(random);
+}
+
+void generate_notice(struct random *random, const struct store *store,
+                     struct request *request)
+{
+    const struct ridge_rights *rights = &store->unit.rights;
+    uint64_t action = RANDOM_CHOICE(random, 0, 0, 6, 6, 1, 2, 2, 3, 4, 4, 4, 4,
+                                    4, 4);
+    uint64_t nexus = notice_sender(random, &store->unit);
+    uint64_t own = key_of(rights, nexus);
+    uint64_t any_type = RANDOM_CHOICE(random, 1, 3, 5, 6, 7, 8);
+    unsigned same = action == 2 ? 85 : 40;
+
+    request->nexus = nexus;
+    make_reserve_out(random, store, request);
+    request->cdb[1] = (uint8_t)((request->cdb[1] & 0xE0) | action);
+    request->cdb[2] = (uint8_t)(rights->type != 0 &&
+                                        random_percent(random, same)
+                                    ? rights->type
+                                    : any_type);
+    put(request->cdb + 5, 4, 24);
+    put(request->data_out, 8, own);
+    put(request->data_out + 8, 8, notice_key(random, action, rights, own));
+    request->data_out[20] &= 0xF2;
+    request->data_out_bytes = generate_size(random, 24);
+    finish_request(random, store, request);
+}
+
+uint64_t generate_waiting(struct random *random, const struct ridge_unit *unit)
+{
+    uint64_t first = random_below(random, RIDGE_NEXUSES);
+
+    for (uint64_t step = 0; step < RIDGE_NEXUSES; step++) {
+        uint64_t nexus = (first + step) % RIDGE_NEXUSES;
+
+        if (unit->attentions[nexus] != RIDGE_NO_ATTENTION)
+            return nexus;
+    }
+    return RIDGE_NEXUSES;
+}
+
+/* At times the nexus is another one, which some of its bits would make the one
+   for which something waits. */
+bool generate_attended(struct random *random, const struct store *store,
+                       struct request *request)
+{
+    uint64_t kind = random_below(random, 100);
+
+    request->nexus = generate_waiting(random, &store->unit);
+    if (request->nexus == RIDGE_NEXUSES)
+        return false;
+    if (kind < 16)
+        make_inquiry(random, store, request);
+    else if (kind < 36)
+        make_inquiry_page(random, store, request);
+    else if (kind < 44)
+        make_other_code(random, store, request);
+    else
+        make_any(random, store, request);
+    finish_request(random, store, request);
+    if (random_percent(random, 12))
+        request->cdb_bytes = (size_t)RANDOM_CHOICE(
+            random, 0, 0, 1, 5, 6, 7, 9, 10, 11, 12, 15, 16, 17);
+    if (random_percent(random, 5))
+        request->nexus +=
+            UINT64_C(1) << RANDOM_CHOICE(random, 4, 8, 16, 32, 63);
+    return true;
 }

@@ -84,12 +84,21 @@ uint64_t generate_capacity(struct random *random, size_t slots);
    filled in order. */
 void generate_map(struct random *random, struct store *store);
 
-/* Makes random registrations, and no reservation. */
+/* Makes random registrations, some of which may share a key, and no
+   reservation. */
 void generate_registrations(struct random *random, struct ridge_rights *rights);
 
 /* Puts a reservation of that type, if anybody is registered to hold it. */
 void generate_reservation(struct random *random, struct ridge_rights *rights,
                           uint32_t type);
+
+/* Makes random registrations, mostly with a reservation, and a generation. */
+void generate_rights(struct random *random, struct ridge_rights *rights);
+
+/* Puts what waits for each nexus, registered or not: in half of the cases
+   nothing, else something for some of them or for all. */
+void generate_attentions(struct random *random,
+                         uint8_t attentions[RIDGE_NEXUSES]);
 
 /* Whether the number is one of the two formats of sense, in its whole width. */
 bool is_format(uint64_t number);
@@ -127,6 +136,21 @@ void generate_take_over(struct random *random, const struct store *store,
    over. */
 void generate_rare(struct random *random, const struct store *store,
                    struct request *request);
+
+/* A reservation-out call that others must know of, or nearly: PREEMPT, CLEAR,
+   RELEASE and unregistering, mostly by a registered nexus that gives its key
+   and for which nothing waits. */
+void generate_notice(struct random *random, const struct store *store,
+                     struct request *request);
+
+/* A nexus for which something waits; RIDGE_NEXUSES if there is none. */
+uint64_t generate_waiting(struct random *random, const struct ridge_unit *unit);
+
+/* A call by a nexus for which something waits, more often than elsewhere an
+   INQUIRY, or one that is answered 1 or 11. Where nothing waits for anybody it
+   makes no call and says false. */
+bool generate_attended(struct random *random, const struct store *store,
+                       struct request *request);
 
 /* The key of a nexus, 0 if it is not registered. */
 uint64_t key_of(const struct ridge_rights *rights, uint64_t nexus);

@@ -43,8 +43,8 @@ enum {
     SAME_OCCASIONS = SAME_BIT + 3
 };
 
-/* Answers 0 to 8 and 10 to 12. */
-enum { ANSWERS = 12 };
+/* Answers 0 to 8 and 10 to 13. */
+enum { ANSWERS = 13 };
 
 /* Addresses that are told, in rising order: the first three have room in four
    bytes, and capacities end before the last. */
@@ -297,7 +297,8 @@ _Static_assert((int)LAST_OCCASION == (int)OCCASIONS, "occasions.h has as many");
     "answer 0 " what, "answer 1 " what, "answer 2 " what,          \
     "answer 3 " what, "answer 4 " what, "answer 5 " what,          \
     "answer 6 " what, "answer 7 " what, "answer 8 " what,          \
-    "answer 10 " what, "answer 11 " what, "answer 12 " what
+    "answer 10 " what, "answer 11 " what, "answer 12 " what,       \
+    "answer 13 " what
 
 #define AT_OF_4(what)                                              \
     what " at 0",                                                  \
@@ -1438,8 +1439,9 @@ void occasions_count_fresh(uint64_t format, uint64_t answer,
         counts_of_format(format, counts)[MADE_FRESH]++;
 }
 
-/* Of an answer 11 nothing else tells: the state may be invalid. With any other
-   but 1 the CDB has as many bytes as its code wants. */
+/* Of an answer 11 nothing else tells, the state may be invalid; nor of 13, for
+   which the call is not looked at. With any other but 1 the CDB has as many
+   bytes as its code wants. */
 void occasions_count(const struct occasion *call, uint64_t counts[OCCASIONS])
 {
     uint8_t action = call->cdb[1] & 0x1F;
@@ -1448,7 +1450,8 @@ void occasions_count(const struct occasion *call, uint64_t counts[OCCASIONS])
         count_format(call, counts_of_format(call->format, counts));
     else if (call->sound && call->sense_bytes >= RIDGE_DESCRIPTOR_SENSE_BYTES)
         counts[WRONG_AT_EXECUTE + kind_of_wrong_format(call->format)]++;
-    if (call->answer == RIDGE_UNUSABLE || call->answer == RIDGE_CODE_NOT_LISTED)
+    if (call->answer == RIDGE_UNUSABLE || call->answer == RIDGE_ATTENTION ||
+        call->answer == RIDGE_CODE_NOT_LISTED)
         return;
     if (call->answer == RIDGE_CDB_FIELD)
         count_cdb_fields(call, counts);

@@ -6,6 +6,7 @@
  * answer, each address that an answer may have to tell, which descriptor of an
  * UNMAP fails, how long the sense buffer is and what it held before, and the
  * numbers that are no format. A rule that no call came near was not tried.
+ * Those of Q-6 are in attentions.h.
  */
 
 #ifndef OCCASIONS_H
@@ -13,14 +14,18 @@
 
 #include "generate.h"
 
-enum { OCCASIONS = 535 };
+enum { OCCASIONS = 543 };
 
 /* A call and its answer; unit, owners and sense are those from before it. It is
-   sound if at its start only format or sense can make it unusable. */
+   sound if at its start only format or sense can make it unusable, and sized if
+   slots and medium are as long as the store's. After an answer 13, `without` is
+   the answer to the same call where nothing waits for the sender. */
 struct occasion {
     uint64_t format;
     bool sound;
+    bool sized;
     const struct ridge_unit *unit;
+    const struct ridge_unit *after;
     const uint64_t *owners;
     size_t slots;
     uint64_t nexus;
@@ -33,6 +38,7 @@ struct occasion {
     const uint8_t *sense;
     size_t sense_bytes;
     uint64_t answer;
+    uint64_t without;
     uint64_t returned;
 };
 

@@ -15,7 +15,8 @@ enum {
 
 static bool has_sense(uint64_t answer)
 {
-    return answer >= RIDGE_CODE_NOT_LISTED && answer <= RIDGE_POOL_FULL;
+    return (answer >= RIDGE_CODE_NOT_LISTED && answer <= RIDGE_POOL_FULL) ||
+           answer == RIDGE_ATTENTION;
 }
 
 size_t sense_written(uint64_t format, uint64_t answer)
@@ -36,7 +37,7 @@ size_t sense_written(uint64_t format, uint64_t answer)
     }
 }
 
-const uint8_t *sense_codes(uint64_t answer)
+const uint8_t *sense_codes(uint64_t answer, uint8_t attention)
 {
     static const uint8_t codes[][SENSE_CODES] = {
         [RIDGE_CODE_NOT_LISTED] = {0x05, 0x20, 0x00},
@@ -48,8 +49,13 @@ const uint8_t *sense_codes(uint64_t answer)
         [RIDGE_RELEASE_TYPE] = {0x05, 0x26, 0x04},
         [RIDGE_POOL_FULL] = {0x07, 0x27, 0x07},
     };
+    static const uint8_t waiting[][SENSE_CODES] = {
+        [RIDGE_REGISTRATIONS_PREEMPTED] = {0x06, 0x2A, 0x05},
+        [RIDGE_RESERVATIONS_PREEMPTED] = {0x06, 0x2A, 0x03},
+        [RIDGE_RESERVATIONS_RELEASED] = {0x06, 0x2A, 0x04},
+    };
 
-    return codes[answer];
+    return answer == RIDGE_ATTENTION ? waiting[attention] : codes[answer];
 }
 
 static uint64_t number(const uint8_t *bytes, size_t count)

@@ -28,8 +28,9 @@ struct told {
    the first on; 0 if it writes none. */
 size_t sense_written(uint64_t format, uint64_t answer);
 
-/* Key, ASC and ASCQ of an answer from 1 to 8. */
-const uint8_t *sense_codes(uint64_t answer);
+/* Key, ASC and ASCQ of an answer from 1 to 8, or of 13, which tells that
+   attention. */
+const uint8_t *sense_codes(uint64_t answer, uint8_t attention);
 
 /* Reads sense data of that format. False if the bytes are laid out in another
    way: a byte is not 0 where it must be, or a length or a type is wrong. */

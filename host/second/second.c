@@ -1,8 +1,8 @@
 /*
  * second.c - a second implementation of the unit, written from the papers
  * alone and independent of the proved library. It follows 01, with requests
- * Q-1 to Q-4 and Q-8 of 02; Q-5 changes no answer. The tests run both on the
- * same calls; the speed figures take it as their baseline.
+ * Q-1 to Q-4, Q-6 and Q-8 of 02; Q-5 changes no answer. The tests run both on
+ * the same calls; the speed figures take it as their baseline.
  *
  * Plain C11: no heap, no globals but constant tables. The order of the tests in
  * each function is the papers' order, since the first that fails is the answer.
@@ -33,8 +33,8 @@ struct field {
 };
 
 /* One call: what was lent, once the bounds are known to hold; and what sense is
-   to tell beyond the codes: after an answer 2 or 5 the field that was wrong,
-   after 3 or 8 the address. */
+   to tell beyond the answer's codes: after an answer 2 or 5 the field that was
+   wrong, after 3 or 8 the address, after 13 the attention. */
 struct call {
     uint64_t format;
     struct ridge_unit *unit;
@@ -50,6 +50,7 @@ struct call {
     uint64_t *returned;
     struct field wrong;
     uint64_t address;
+    uint8_t attention;
 };
 
 /* ---- Numbers in buffers, most significant byte first ---- */
@@ -129,7 +130,7 @@ static bool is_type(uint32_t type)
     }
 }
 
-/* Under these types every registered nexus is a holder. */
+/* Under types 7 and 8 every registered nexus is a holder. */
 static bool is_for_all(uint32_t type)
 {
     return type == WRITE_EXCLUSIVE_ALL || type == EXCLUSIVE_ACCESS_ALL;
@@ -217,6 +218,24 @@ static bool valid_reservation(const struct ridge_rights *rights)
     return is_registered(rights, holder);
 }
 
+/* Whether its nexus is registered does not count: what waits may be that it no
+   longer is. */
+static bool valid_attentions(const uint8_t attentions[RIDGE_NEXUSES])
+{
+    for (size_t nexus = 0; nexus < RIDGE_NEXUSES; nexus++) {
+        switch (attentions[nexus]) {
+        case RIDGE_NO_ATTENTION:
+        case RIDGE_REGISTRATIONS_PREEMPTED:
+        case RIDGE_RESERVATIONS_PREEMPTED:
+        case RIDGE_RESERVATIONS_RELEASED:
+            break;
+        default:
+            return false;
+        }
+    }
+    return true;
+}
+
 static bool valid_bounds(uint64_t capacity, size_t slots)
 {
     return capacity >= 1 && capacity <= RIDGE_CAPACITY_LAST && slots >= 1 &&
@@ -233,6 +252,7 @@ static bool valid_state(const struct call *call)
 {
     return valid_places(&call->unit->rights) &&
            valid_reservation(&call->unit->rights) &&
+           valid_attentions(call->unit->attentions) &&
            valid_map(call->owners, call->slots, call->unit->capacity);
 }
 
@@ -906,6 +926,32 @@ static void empty_place(struct ridge_rights *rights, size_t place)
     rights->places[place].key = 0;
 }
 
+/* Lets whoever is registered in a place know what was done, in place of what
+   may still wait for it. The sender knows. */
+static void tell(struct call *call, size_t place, uint8_t attention)
+{
+    const struct ridge_place *registered = &call->unit->rights.places[place];
+
+    if (registered->key != 0 && registered->nexus != call->nexus)
+        call->unit->attentions[registered->nexus] = attention;
+}
+
+/*
+ * For the end of RELEASE, of a holder's unregistering and of PREEMPT, which may
+ * end the reservation that was of the type `held`, or change its type. Those
+ * who are still registered then learn of it; under 1 and 3 they had no part in
+ * the reservation.
+ */
+static void tell_of_release(struct call *call, uint32_t held)
+{
+    if (call->unit->rights.type == held)
+        return;
+    if (!is_for_registrants(held) && !is_for_all(held))
+        return;
+    for (size_t place = 0; place < RIDGE_PLACES; place++)
+        tell(call, place, RIDGE_RESERVATIONS_RELEASED);
+}
+
 /* Ends the reservation if its holder, or the last of all holders, is gone. */
 static void end_if_unheld(struct ridge_rights *rights)
 {
@@ -940,6 +986,7 @@ static uint64_t register_new(struct call *call, uint64_t key)
 static uint64_t register_key(struct call *call, const struct order *order)
 {
     struct ridge_rights *rights = &call->unit->rights;
+    uint32_t held = rights->type;
 
     if (order->place == NO_PLACE)
         return register_new(call, order->action_key);
@@ -948,6 +995,7 @@ static uint64_t register_key(struct call *call, const struct order *order)
     } else {
         empty_place(rights, order->place);
         end_if_unheld(rights);
+        tell_of_release(call, held);
     }
     raise_generation(rights);
     return RIDGE_GOOD;
@@ -968,11 +1016,14 @@ static uint64_t reserve(struct call *call, const struct order *order)
 
 static uint64_t release(struct call *call, const struct order *order)
 {
+    uint32_t held = call->unit->rights.type;
+
     if (!is_holder(call))
         return RIDGE_GOOD;
-    if (call->unit->rights.type != order->type)
+    if (held != order->type)
         return RIDGE_RELEASE_TYPE;
     end_reservation(&call->unit->rights);
+    tell_of_release(call, held);
     return RIDGE_GOOD;
 }
 
@@ -980,8 +1031,10 @@ static uint64_t clear(struct call *call)
 {
     struct ridge_rights *rights = &call->unit->rights;
 
-    for (size_t place = 0; place < RIDGE_PLACES; place++)
+    for (size_t place = 0; place < RIDGE_PLACES; place++) {
+        tell(call, place, RIDGE_RESERVATIONS_PREEMPTED);
         empty_place(rights, place);
+    }
     end_reservation(rights);
     raise_generation(rights);
     return RIDGE_GOOD;
@@ -996,21 +1049,27 @@ static bool somebody_has(const struct ridge_rights *rights, uint64_t key)
     return false;
 }
 
+/* What PREEMPT does to whoever is registered in a place. */
+static void remove_place(struct call *call, size_t place)
+{
+    tell(call, place, RIDGE_REGISTRATIONS_PREEMPTED);
+    empty_place(&call->unit->rights, place);
+}
+
 /* Removes all with the key, save the place spared (NO_PLACE spares none). */
-static void remove_key(struct ridge_rights *rights, uint64_t key,
-                       size_t spared)
+static void remove_key(struct call *call, uint64_t key, size_t spared)
 {
     for (size_t place = 0; place < RIDGE_PLACES; place++) {
-        if (place != spared && rights->places[place].key == key)
-            empty_place(rights, place);
+        if (place != spared && call->unit->rights.places[place].key == key)
+            remove_place(call, place);
     }
 }
 
-static void remove_others(struct ridge_rights *rights, size_t spared)
+static void remove_others(struct call *call, size_t spared)
 {
     for (size_t place = 0; place < RIDGE_PLACES; place++) {
         if (place != spared)
-            empty_place(rights, place);
+            remove_place(call, place);
     }
 }
 
@@ -1025,7 +1084,7 @@ static uint64_t take_over(struct call *call, const struct order *order)
 
     if (!is_for_all(rights->type))
         return wrong_in_list(call, 8, 7);
-    remove_others(rights, order->place);
+    remove_others(call, order->place);
     make_reservation(call, order->type);
     raise_generation(rights);
     return RIDGE_GOOD;
@@ -1042,10 +1101,11 @@ static uint64_t preempt(struct call *call, const struct order *order)
         return RIDGE_CONFLICT;
     if (held != RESERVATION_NONE && !is_for_all(held) &&
         holder_key(rights) == order->action_key) {
-        remove_key(rights, order->action_key, order->place);
+        remove_key(call, order->action_key, order->place);
         make_reservation(call, order->type);
+        tell_of_release(call, held);
     } else {
-        remove_key(rights, order->action_key, NO_PLACE);
+        remove_key(call, order->action_key, NO_PLACE);
         end_if_unheld(rights);
     }
     raise_generation(rights);
@@ -1177,7 +1237,23 @@ static const struct command *find_command(uint8_t code)
     return NULL;
 }
 
-/* The CDB's last byte is the control byte; its bit 2 is NACA. */
+static bool is_waiting(const struct call *call)
+{
+    return call->unit->attentions[call->nexus] != RIDGE_NO_ATTENTION;
+}
+
+/* Takes away what waits for the sender; sense tells it. */
+static uint64_t deliver(struct call *call)
+{
+    uint8_t *waiting = &call->unit->attentions[call->nexus];
+
+    call->attention = *waiting;
+    *waiting = RIDGE_NO_ATTENTION;
+    return RIDGE_ATTENTION;
+}
+
+/* While something waits for the sender, INQUIRY alone is served. The CDB's last
+   byte is the control byte; its bit 2 is NACA. */
 static uint64_t dispatch(struct call *call, size_t cdb_bytes)
 {
     const struct command *command = find_command(call->cdb[0]);
@@ -1186,6 +1262,8 @@ static uint64_t dispatch(struct call *call, size_t cdb_bytes)
         return RIDGE_CODE_NOT_LISTED;
     if (cdb_bytes != command->cdb_bytes)
         return RIDGE_UNUSABLE;
+    if (is_waiting(call) && command->serve != inquiry)
+        return deliver(call);
     if ((call->cdb[cdb_bytes - 1] & 0x04) != 0)
         return wrong_in_cdb(call, cdb_bytes - 1, 2);
     return command->serve(call);
@@ -1201,12 +1279,30 @@ static size_t sense_room(uint64_t format)
                                       : RIDGE_SENSE_BYTES;
 }
 
-/* Key, ASC and ASCQ for the answers of status 02h, which are 1 to 8. */
+/* Key, ASC and ASCQ for the answers of status 02h: 1 to 8, and 13. */
 static const uint8_t sense_codes[9][3] = {
     {0, 0, 0},          {0x05, 0x20, 0x00}, {0x05, 0x24, 0x00},
     {0x05, 0x21, 0x00}, {0x05, 0x1A, 0x00}, {0x05, 0x26, 0x00},
     {0x05, 0x55, 0x04}, {0x05, 0x26, 0x04}, {0x07, 0x27, 0x07},
 };
+
+static const uint8_t attention_codes[4][3] = {
+    [RIDGE_REGISTRATIONS_PREEMPTED] = {0x06, 0x2A, 0x05},
+    [RIDGE_RESERVATIONS_PREEMPTED] = {0x06, 0x2A, 0x03},
+    [RIDGE_RESERVATIONS_RELEASED] = {0x06, 0x2A, 0x04},
+};
+
+static bool has_sense(uint64_t answer)
+{
+    return (answer >= RIDGE_CODE_NOT_LISTED && answer <= RIDGE_POOL_FULL) ||
+           answer == RIDGE_ATTENTION;
+}
+
+static const uint8_t *codes_of(uint64_t answer, const struct call *call)
+{
+    return answer == RIDGE_ATTENTION ? attention_codes[call->attention]
+                                     : sense_codes[answer];
+}
 
 static bool tells_field(uint64_t answer)
 {
@@ -1234,13 +1330,14 @@ static void fixed_sense(uint8_t *sense, uint64_t answer,
                         const struct call *call)
 {
     enum { VALID = 0x80, ADDITIONAL_LENGTH = 0x0A };
+    const uint8_t *codes = codes_of(answer, call);
 
     memset(sense, 0, RIDGE_SENSE_BYTES);
     sense[0] = RIDGE_FIXED;
-    sense[2] = sense_codes[answer][0];
+    sense[2] = codes[0];
     sense[7] = ADDITIONAL_LENGTH;
-    sense[12] = sense_codes[answer][1];
-    sense[13] = sense_codes[answer][2];
+    sense[12] = codes[1];
+    sense[13] = codes[2];
     if (tells_field(answer))
         point_at(sense + 15, answer, call->wrong);
     if (tells_address(answer) && call->address <= UINT32_MAX) {
@@ -1286,7 +1383,7 @@ static void descriptor_sense(uint8_t *sense, uint64_t answer,
 
     memset(sense, 0, HEADER);
     sense[0] = RIDGE_DESCRIPTOR;
-    memcpy(sense + 1, sense_codes[answer], 3);
+    memcpy(sense + 1, codes_of(answer, call), 3);
     if (tells_field(answer))
         behind = put_place(sense + HEADER, answer, call->wrong);
     if (tells_address(answer))
@@ -1297,7 +1394,7 @@ static void descriptor_sense(uint8_t *sense, uint64_t answer,
 static void write_sense(uint8_t *sense, uint64_t answer,
                         const struct call *call)
 {
-    if (answer < RIDGE_CODE_NOT_LISTED || answer > RIDGE_POOL_FULL)
+    if (!has_sense(answer))
         return;
     if (call->format == RIDGE_DESCRIPTOR)
         descriptor_sense(sense, answer, call);
@@ -1329,7 +1426,7 @@ uint64_t SECOND_NAME(execute)(
     struct call call = {format,         unit,    owners,        slots,
                         medium,         nexus,   cdb,           data_out,
                         data_out_bytes, data_in, data_in_bytes, returned,
-                        {0, 0},         0};
+                        {0, 0},         0,       0};
     uint64_t answer;
 
     *returned = 0;

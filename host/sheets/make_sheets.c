@@ -200,15 +200,19 @@ static bool make_opening_call(struct opening opening, size_t number,
     return true;
 }
 
-/* The next call of a history; its nexus fits the sheet's byte. */
+/* The next call of a history; its nexus fits the sheet's byte. Where something
+   waits for somebody, a third of the calls are that one's. */
 static void make_call(struct random *random, const struct store *store,
                       struct request *request)
 {
     unsigned rare = store->unit.rights.type >= 7 ? 30 : 10;
+    uint64_t kind = random_below(random, 100);
 
-    if (random_percent(random, rare))
+    if (kind < rare)
         generate_rare(random, store, request);
-    else
+    else if (kind < rare + 15)
+        generate_notice(random, store, request);
+    else if (kind >= rare + 45 || !generate_attended(random, store, request))
         generate_request(random, store,
                          generate_nexus(random, &store->unit.rights), request);
     request->nexus = (uint8_t)request->nexus;
@@ -334,7 +338,7 @@ int main(int argc, char **argv)
         write_sheet(argv[1], number, &sheet);
     }
     printf("answers in the histories:");
-    for (unsigned number = 0; number <= RIDGE_BUFFER_SHORT; number++)
+    for (unsigned number = 0; number <= RIDGE_ATTENTION; number++)
         printf(" %u:%" PRIu64, number, answers[number]);
     printf("\n");
     return 0;

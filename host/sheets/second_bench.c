@@ -53,7 +53,7 @@ static void print_line(FILE *out, size_t number, uint64_t answer,
     fprintf(out, "%zu,%u,", number, (unsigned)answer);
     if (answer == 0)
         fputs("00,", out);
-    else if (answer <= 8)
+    else if (answer <= 8 || answer == 13)
         fprintf(out, "02,%02X%02X%02X", sense[2], sense[12], sense[13]);
     else if (answer == 10)
         fputs("18,", out);

@@ -1,6 +1,7 @@
 /*
  * two_runs.c - runs pairs of histories on the proved library to see that a
- * nexus that is shut out from reading learns nothing of blocks and maps.
+ * nexus that is shut out from reading, or for which an attention waits, learns
+ * nothing of blocks and maps.
  *
  *   two_runs [STEPS [SEED]]
  *
@@ -8,16 +9,18 @@
  * seed gives the same calls on every machine.
  *
  * The two stores of a pair have the same format of sense, equal capacity,
- * registrations, reservation and generation; slots, maps and blocks differ.
- * Both get the same reservation-out calls (operation code 5Fh) and the same
- * calls by nexuses then shut out, in the same order with the same lent data and
- * sense buffers, the whole pool lent each time. Between these, each gets other
- * calls of its own.
+ * registrations, reservation, generation and attentions; slots, maps and blocks
+ * differ. Both get the same reservation-out calls (operation code 5Fh), the
+ * same calls by nexuses then shut out and the same calls by nexuses for which
+ * then an attention waits, in the same order with the same lent data and sense
+ * buffers, the whole pool lent each time. Between these, each gets other calls
+ * of its own.
  *
  * Then each of the common calls gives the same answer, returned count, data-in
  * and sense in both, to the last byte, so the place of a wrong field too, and
- * leaves equal records; no reservation-out call changes a block or a mapping,
- * and no other shut-out call changes anything stored.
+ * leaves equal records; none changes a block or a mapping. A call by a nexus
+ * for which an attention waits changes that one at most, and no other call that
+ * is not a reservation-out call changes anything of the record.
  *
  * Exit status: 0 all held and enough was compared; 1 something did not hold,
  * which is printed; 2 too little compared (asked of long runs alone), or bad
@@ -35,7 +38,7 @@
 enum {
     STEPS_DEFAULT = 100000,
     STEPS_LONG = 20000, /* from here on enough must be compared */
-    STEPS_OF_PAIR = 60,
+    STEPS_OF_PAIR = 40,
     RESERVE_OUT_CODE = 0x5F,
     PLACES = 14
 };
@@ -85,6 +88,15 @@ struct figures {
     uint64_t shut_out_pages[256]; /* told by INQUIRY, or not listed */
     uint64_t other_pages;
     uint64_t shut_out_answers[16];
+    uint64_t waiting_calls; /* by nexuses for which an attention waits */
+    uint64_t waiting_told[RIDGE_RESERVATIONS_RELEASED + 1];
+    uint64_t waiting_answers[16];
+    uint64_t waiting_inquiries;
+    uint64_t waiting_reserve_out;
+    uint64_t waiting_holders;
+    uint64_t waiting_codes[256]; /* of those that are not shut out */
+    uint64_t waiting_status;     /* of these GET LBA STATUS */
+    uint64_t notices;            /* reservation-out calls that sent some */
     uint64_t take_overs;   /* PREEMPT with key 0 that was served */
     uint64_t shutting_out; /* of these, such as shut somebody out */
     uint64_t removed_calls;
@@ -192,6 +204,21 @@ static bool unit_kept(const struct side *side)
     return same_unit(&side->before.unit, &side->store.unit);
 }
 
+/* Whether nothing of the record changed but what waited for that nexus. */
+static bool others_kept(const struct side *side, uint64_t nexus)
+{
+    struct ridge_unit before = side->before.unit;
+
+    before.attentions[nexus] = side->store.unit.attentions[nexus];
+    return same_unit(&before, &side->store.unit);
+}
+
+static bool is_waiting(const struct ridge_unit *unit, uint64_t nexus)
+{
+    return nexus <= RIDGE_NEXUS_LAST &&
+           unit->attentions[nexus] != RIDGE_NO_ATTENTION;
+}
+
 /* Of the answer and the sense of a common call, the same in both. */
 static void count_common(struct run *run)
 {
@@ -206,6 +233,26 @@ static void count_common(struct run *run)
     for (size_t index = 0; index < PLACES; index++) {
         if (memcmp(place, places[index].bytes, 3) == 0)
             run->figures.places[format][index]++;
+    }
+}
+
+/* What a common call may change of the stores. */
+static void hold_stored(struct run *run)
+{
+    const struct side *left = &run->left;
+    const struct side *right = &run->right;
+    uint64_t nexus = run->request.nexus;
+
+    if (!same_unit(&left->store.unit, &right->store.unit))
+        fail(run, "the records of the two runs differ");
+    if (!map_kept(left) || !map_kept(right))
+        fail(run, "a block or a mapping has changed");
+    if (is_waiting(&left->before.unit, nexus)) {
+        if (!others_kept(left, nexus) || !others_kept(right, nexus))
+            fail(run, "more has changed than what waited for the sender");
+    } else if (!is_reserve_out(&run->request) &&
+               (!unit_kept(left) || !unit_kept(right))) {
+        fail(run, "a shut-out call has changed the record");
     }
 }
 
@@ -227,13 +274,7 @@ static void common_call(struct run *run)
         fail(run, "the data-in buffers of the two runs differ");
     if (memcmp(left->sense, right->sense, sizeof left->sense) != 0)
         fail(run, "the sense buffers of the two runs differ");
-    if (!same_unit(&left->store.unit, &right->store.unit))
-        fail(run, "the records of the two runs differ");
-    if (!map_kept(left) || !map_kept(right))
-        fail(run, "a block or a mapping has changed");
-    if (!is_reserve_out(&run->request) &&
-        (!unit_kept(left) || !unit_kept(right)))
-        fail(run, "a shut-out call has changed the record");
+    hold_stored(run);
     count_common(run);
 }
 
@@ -275,6 +316,16 @@ static void follow_removed(struct run *run)
     }
 }
 
+/* Whether the reservation-out call in hand let others know of something. */
+static bool has_sent(const struct run *run)
+{
+    const struct side *side = &run->left;
+
+    return side->answer == RIDGE_GOOD &&
+           memcmp(side->before.unit.attentions, side->store.unit.attentions,
+                  sizeof side->store.unit.attentions) != 0;
+}
+
 /* Made up from the left store: what counts for it is the same in both. */
 static void out_call(struct run *run)
 {
@@ -283,6 +334,8 @@ static void out_call(struct run *run)
 
     if (random_percent(&run->random, share))
         generate_take_over(&run->random, store, &run->request);
+    else if (random_percent(&run->random, 35))
+        generate_notice(&run->random, store, &run->request);
     else
         generate_reserve_out(&run->random, store,
                              generate_nexus(&run->random, &store->unit.rights),
@@ -290,18 +343,23 @@ static void out_call(struct run *run)
     common_call(run);
     follow_removed(run);
     run->figures.out_calls++;
+    run->figures.notices += has_sent(run) ? 1 : 0;
     if (has_taken_over(run)) {
         run->figures.take_overs++;
         run->figures.shutting_out += has_shut_out(run) ? 1 : 0;
     }
 }
 
+static const struct store *either_store(struct run *run)
+{
+    return random_percent(&run->random, 50) ? &run->left.store
+                                            : &run->right.store;
+}
+
 /* A call by a nexus that is shut out, made up from either store. */
 static void shut_out_call(struct run *run)
 {
-    const struct store *store = random_percent(&run->random, 50)
-                                    ? &run->left.store
-                                    : &run->right.store;
+    const struct store *store = either_store(run);
     uint64_t first = random_below(&run->random, 18);
     uint64_t nexus = first;
 
@@ -324,13 +382,48 @@ static void shut_out_call(struct run *run)
     run->figures.shut_out_answers[run->left.answer & 15]++;
 }
 
-/* A call on one store alone, by a nexus that is not shut out. */
+static void count_waiting(struct run *run)
+{
+    const struct ridge_unit *before = &run->left.before.unit;
+    const struct request *request = &run->request;
+    struct figures *figures = &run->figures;
+    bool holds = before->rights.type != 0 && before->rights.type < 7 &&
+                 before->rights.holder == request->nexus;
+
+    figures->waiting_calls++;
+    figures->waiting_answers[run->left.answer & 15]++;
+    if (run->left.answer == RIDGE_ATTENTION)
+        figures->waiting_told[before->attentions[request->nexus]]++;
+    figures->waiting_inquiries +=
+        request->cdb[0] == 0x12 && run->left.answer == RIDGE_GOOD ? 1 : 0;
+    figures->waiting_reserve_out += is_reserve_out(request) ? 1 : 0;
+    figures->waiting_holders += holds ? 1 : 0;
+    if (is_shut_out(&before->rights, request->nexus))
+        return;
+    figures->waiting_codes[request->cdb[0]]++;
+    figures->waiting_status += is_status(request) ? 1 : 0;
+}
+
+/* A call by a nexus for which an attention waits, made up from either store. */
+static void waiting_call(struct run *run)
+{
+    const struct store *store = either_store(run);
+
+    if (!generate_attended(&run->random, store, &run->request) ||
+        !is_waiting(&store->unit, run->request.nexus))
+        return;
+    common_call(run);
+    count_waiting(run);
+}
+
+/* A call on one store alone, by a nexus that is not shut out and for which
+   nothing waits. */
 static void other_call(struct run *run, struct side *side)
 {
     const struct ridge_rights *rights = &side->store.unit.rights;
     uint64_t nexus = generate_nexus(&run->random, rights);
 
-    if (is_shut_out(rights, nexus))
+    if (is_shut_out(rights, nexus) || is_waiting(&side->store.unit, nexus))
         return;
     generate_request(&run->random, &side->store, nexus, &run->request);
     if (is_reserve_out(&run->request))
@@ -377,8 +470,10 @@ static void step(struct run *run)
     run->figures.steps++;
     if (kind < 15) {
         out_call(run);
-    } else if (kind < 60) {
+    } else if (kind < 55) {
         shut_out_call(run);
+    } else if (kind < 65) {
+        waiting_call(run);
     } else {
         for (uint64_t left = random_below(&run->random, 3); left > 0; left--)
             other_call(run, &run->left);
@@ -441,10 +536,54 @@ static bool print_shut_out(const struct figures *figures, uint64_t steps)
                           steps / 100);
     enough &= print_pages(figures, steps);
     printf("answers of shut-out calls:");
-    for (unsigned answer = 0; answer <= RIDGE_BUFFER_SHORT; answer++)
+    for (unsigned answer = 0; answer <= RIDGE_ATTENTION; answer++)
         printf(" %u: %" PRIu64, answer, figures->shut_out_answers[answer]);
     printf("\n");
     return enough;
+}
+
+/* Of nexuses that are not shut out: what they would see, or change, if they
+   were served. */
+static bool print_waiting_codes(const struct figures *figures, uint64_t steps)
+{
+    const uint64_t *codes = figures->waiting_codes;
+    bool enough = print_count("of these READ, not shut out",
+                              codes[0x28] + codes[0x88], steps / 2000);
+
+    enough &= print_count("of these GET LBA STATUS, not shut out",
+                          figures->waiting_status, steps / 2000);
+    enough &= print_count("of these WRITE, not shut out",
+                          codes[0x2A] + codes[0x8A], steps / 2000);
+    enough &= print_count("of these WRITE SAME, not shut out", codes[0x93],
+                          steps / 2000);
+    enough &= print_count("of these UNMAP, not shut out", codes[0x42],
+                          steps / 2000);
+    return enough;
+}
+
+static bool print_waiting(const struct figures *figures, uint64_t steps)
+{
+    static const char *const told[] = {"", "2A/05", "2A/03", "2A/04"};
+    bool enough = print_count("calls compared of those for whom one waits",
+                              figures->waiting_calls, steps / 50);
+
+    for (size_t code = 1; code < sizeof told / sizeof *told; code++) {
+        char name[32];
+
+        snprintf(name, sizeof name, "of these told %s", told[code]);
+        enough &= print_count(name, figures->waiting_told[code], steps / 500);
+    }
+    enough &= print_count("of these good INQUIRY", figures->waiting_inquiries,
+                          steps / 500);
+    enough &= print_count("of these answered 1", figures->waiting_answers[1],
+                          steps / 1000);
+    enough &= print_count("of these answered 11", figures->waiting_answers[11],
+                          steps / 1000);
+    enough &= print_count("of these reservation-out",
+                          figures->waiting_reserve_out, steps / 500);
+    enough &= print_count("of these by the one that holds",
+                          figures->waiting_holders, steps / 10000);
+    return enough & print_waiting_codes(figures, steps);
 }
 
 static const char *const format_names[] = {"fixed", "descriptor"};
@@ -469,7 +608,7 @@ static bool print_places(const struct figures *figures, uint64_t steps)
 /* Answers 3 and 8 are none of a common call's: a conflict comes before. */
 static bool print_compared(const struct figures *figures, uint64_t steps)
 {
-    static const uint8_t answers[] = {0, 1, 2, 4, 5, 6, 7, 10, 11, 12};
+    static const uint8_t answers[] = {0, 1, 2, 4, 5, 6, 7, 10, 11, 12, 13};
     bool enough = true;
 
     for (size_t format = 0; format < 2; format++) {
@@ -498,7 +637,10 @@ static bool print_figures(const struct figures *figures)
                           steps / 1000);
     enough &= print_count("of these shutting somebody out",
                           figures->shutting_out, steps / 2000);
+    enough &= print_count("of these telling somebody", figures->notices,
+                          steps / 200);
     enough &= print_shut_out(figures, steps);
+    enough &= print_waiting(figures, steps);
     enough &= print_places(figures, steps);
     enough &= print_compared(figures, steps);
     enough &= print_count("other calls between", figures->other_calls,

@@ -302,8 +302,8 @@ static struct store_call read_all(void)
     return call;
 }
 
-/* Registers, reserves, releases, clears or preempts, with the nexus's own key.
-   The last two leave an attention to whoever else was registered. */
+/* Registers, reserves, releases, clears or preempts, with the nexus's own key. The
+   last three may leave attentions to others. */
 static struct store_call random_reservation(void)
 {
     enum { RESERVE = 1, RELEASE, CLEAR, PREEMPT, REGISTER_AND_IGNORE = 6 };

@@ -44,11 +44,14 @@ enum sends {
    last slot holds the block of the one before. */
 enum layout { SCATTERED, APART, EVERY, FALLING, RANDOM, CHOSEN, TWICE };
 
-/* One row of the table. Place i is nexus i with key 10h + i. The sense is fixed
-   where the row does not say that it is in descriptor format. */
+/* One row of the table. Place i is nexus i with key 10h + i, or 10h in all places
+   but the sender's where one_key says so. The sense is fixed where the row does
+   not say that it is in descriptor format. Nothing waits for a nexus but for the
+   sender, where the row says what. */
 struct operation {
     const char *title;
-    int descriptor_sense;
+    int descriptor_sense, one_key;
+    uint8_t waiting; /* for the sender, enum ridge_attention */
     size_t slots, full, places, moved;
     enum layout layout;
     unsigned step;
@@ -72,6 +75,10 @@ struct operation {
 #define HELD FULL, .places = 8, .type = 1, .holder = 7, .cdb_bytes = 10
 #define SHARED FULL, .places = 8, .type = 6, .holder = 7, .cdb_bytes = 10
 #define OUT HELD, .sends = KEYS, .moved = LIST_BYTES
+#define OUT_OF_6 SHARED, .sends = KEYS, .moved = LIST_BYTES, .nexus = 7, .key = 0x17
+#define TOLD                                                 \
+    .cdb_bytes = 6, .waiting = RIDGE_REGISTRATIONS_PREEMPTED, \
+    .answer = RIDGE_ATTENTION
 #define PAST_THE_END                                    \
     .answer = RIDGE_ADDRESS_RANGE, .cdb_bytes = 10,     \
     .cdb = {0x28, [4] = CAPACITY >> 8, CAPACITY & 0xFF, \
@@ -100,6 +107,14 @@ static const struct operation operations[] = {
     {"TEST UNIT READY, 128 blocks of one bucket", FAR(CHOSEN, 0)},
     {"TEST UNIT READY, 128 full slots, the last two alike (11)",
      FAR(TWICE, 0), .answer = RIDGE_UNUSABLE},
+    {"TEST UNIT READY, told of an attention (13), fixed sense, 1 full slot",
+     .slots = 1, .full = 1, TOLD},
+    {"TEST UNIT READY, told of an attention (13), fixed sense, 128 full slots",
+     FULL, TOLD},
+    {"TEST UNIT READY, told of an attention (13), descriptor sense, 1 full slot",
+     .descriptor_sense = 1, .slots = 1, .full = 1, TOLD},
+    {"TEST UNIT READY, told of an attention (13), descriptor sense, 128 full slots",
+     .descriptor_sense = 1, FULL, TOLD},
     {"INQUIRY", FULL, .moved = 36, .cdb_bytes = 6, .cdb = {0x12, 0, 0, 0, 36}},
     {"INQUIRY, page 00h", FULL, .moved = 7, PAGE(0x00)},
     {"INQUIRY, page B0h, the limits", FULL, .moved = 64, PAGE(0xB0)},
@@ -206,13 +221,26 @@ static const struct operation operations[] = {
      .cdb = {0x5F, 1, 1, [8] = LIST_BYTES}},
     {"RESERVE OUT, RELEASE", OUT, .nexus = 7, .key = 0x17,
      .cdb = {0x5F, 2, 1, [8] = LIST_BYTES}},
+    {"RESERVE OUT, RELEASE of type 6, 7 others told", OUT_OF_6,
+     .cdb = {0x5F, 2, 6, [8] = LIST_BYTES}},
+    {"RESERVE OUT, REGISTER of the key 0 by the holder of type 6, 7 others told",
+     OUT_OF_6, .cdb = {0x5F, 0, [8] = LIST_BYTES}},
     {"RESERVE OUT, CLEAR", OUT, .nexus = 7, .key = 0x17,
+     .cdb = {0x5F, 3, 0, [8] = LIST_BYTES}},
+    {"RESERVE OUT, CLEAR, nobody else registered", FULL, .places = 1,
+     .sends = KEYS, .moved = LIST_BYTES, .key = 0x10, .cdb_bytes = 10,
      .cdb = {0x5F, 3, 0, [8] = LIST_BYTES}},
     {"RESERVE OUT, PREEMPT of the holder", OUT, .nexus = 0, .key = 0x10,
      .action_key = 0x17, .cdb = {0x5F, 4, 3, [8] = LIST_BYTES}},
     {"RESERVE OUT, PREEMPT of 8 registrants by the key 0", FULL, .places = 8,
      .type = 7, .nexus = 7, .sends = KEYS, .moved = LIST_BYTES, .key = 0x17,
      .cdb_bytes = 10, .cdb = {0x5F, 4, 3, [8] = LIST_BYTES}},
+    {"RESERVE OUT, PREEMPT of 7 others with one key, all told", FULL,
+     .places = 8, .one_key = 1, .nexus = 7, .sends = KEYS, .moved = LIST_BYTES,
+     .key = 0x17, .action_key = 0x10, .cdb_bytes = 10,
+     .cdb = {0x5F, 4, 3, [8] = LIST_BYTES}},
+    {"RESERVE OUT, PREEMPT by the holder from type 6 to 5, 7 others told",
+     OUT_OF_6, .action_key = 0x17, .cdb = {0x5F, 4, 5, [8] = LIST_BYTES}},
     {"RESERVE OUT, PREEMPT by the key 0, refused (5)", HELD, .sends = KEYS,
      .nexus = 7, .key = 0x17, .answer = RIDGE_LIST_FIELD,
      .cdb = {0x5F, 4, 3, [8] = LIST_BYTES}},
@@ -291,9 +319,11 @@ static void prepare_store(void)
     rights->type = operation->type;
     rights->holder = operation->holder;
     for (size_t place = 0; place < operation->places; place++) {
+        int shares = operation->one_key && place != operation->nexus;
         rights->places[place].nexus = place;
-        rights->places[place].key = 0x10 + place;
+        rights->places[place].key = shares ? 0x10 : 0x10 + place;
     }
+    saved_unit.attentions[operation->nexus] = operation->waiting;
     prepare_owners();
     for (size_t i = 0; i < sizeof medium; i++)
         medium[i] = (uint8_t)(i * 7 + i / 512);

@@ -5,10 +5,12 @@
  *
  * Every call is made on a store of its own, which real calls bring into its
  * state: fresh, two blocks written, two nexuses registered, one of them
- * reserving. Each type of reservation is met by the nexus that reserved, by
- * another that is registered and by one that is not; and so is a store without
- * a reservation. The nexus numbers change, so that nexus 0 (the holder field's
- * value where no one nexus holds) is each of the three in turn.
+ * reserving; nothing of that leaves an attention, so that no call is answered
+ * with one (13) in place of its cell. Each type of reservation is met by the
+ * nexus that reserved, by another that is registered and by one that is not; and
+ * so is a store without a reservation. The nexus numbers change, so that nexus 0
+ * (the holder field's value where no one nexus holds) is each of the three in
+ * turn.
  *
  * Of a PLAIN call of a served row, answer 0 says Allowed and 10 says Conflict;
  * all calls of one cell must agree, and holders and stores without a
@@ -148,6 +150,10 @@ static void set_scene(void)
         answers += reserve_out(reserver, 1, scene->type, key_of(reserver), 0);
     if (answers != 0)
         fault("the scene cannot be set", answers);
+    for (size_t nexus = 0; nexus < RIDGE_NEXUSES; nexus++) {
+        if (store.unit.attentions[nexus] != RIDGE_NO_ATTENTION)
+            fault("the scene leaves an attention", answers);
+    }
     memset(store.data_in, FILL, sizeof store.data_in);
     memset(store.sense, FILL, sizeof store.sense);
     before = store;

@@ -1,5 +1,6 @@
 /* How to link the store: make one, write a block, read it back, ask past the
-   end and see which address was refused. On x86-64, after `rt staticlib ridge`:
+   end and see which address was refused; remove another's registration, and see
+   it told. On x86-64, after `rt staticlib ridge`:
      gcc -Ihost/include host/example/example.c target/staticlib/libridge.a */
 #include <stdio.h>
 #include <string.h>
@@ -14,17 +15,33 @@ static uint8_t medium[2 * RIDGE_BLOCK_BYTES];
 static uint8_t block[RIDGE_BLOCK_BYTES], data_in[RIDGE_BLOCK_BYTES];
 static uint8_t sense[RIDGE_DESCRIPTOR_SENSE_BYTES];
 
-/* Sends a READ(10) or WRITE(10) of one block as nexus 0 and tells the answer. */
-static void send(const char *name, uint8_t code, uint8_t address)
+/* Sends a command of ten bytes and tells the answer. */
+static void send(uint64_t nexus, const char *name, const uint8_t *cdb,
+                 const uint8_t *data_out, size_t data_out_bytes)
 {
-    const uint8_t cdb[10] = {code, [5] = address, [8] = 1};
     uint64_t returned;
     uint64_t answer = ridge_execute(
-        format, &unit, owners, 2, medium, sizeof medium, 0, cdb, sizeof cdb,
-        block, sizeof block, data_in, sizeof data_in, sense, sizeof sense,
+        format, &unit, owners, 2, medium, sizeof medium, nexus, cdb, 10,
+        data_out, data_out_bytes, data_in, sizeof data_in, sense, sizeof sense,
         &returned);
-    printf("%s block %d: answer %d, %d bytes returned\n", name, address,
+    printf("nexus %d, %s: answer %d, %d bytes returned\n", (int)nexus, name,
            (int)answer, (int)returned);
+}
+
+/* READ(10) or WRITE(10) of one block. */
+static void move(uint64_t nexus, const char *name, uint8_t code, uint8_t address)
+{
+    const uint8_t cdb[10] = {code, [5] = address, [8] = 1};
+    send(nexus, name, cdb, block, sizeof block);
+}
+
+/* REGISTER (0) or PREEMPT (4), with the sender's key and that of the action. */
+static void reserve_out(uint64_t nexus, const char *name, uint8_t action,
+                        uint8_t key, uint8_t action_key)
+{
+    const uint8_t cdb[10] = {0x5F, action, 1, [8] = 24};
+    const uint8_t list[24] = {[7] = key, [15] = action_key};
+    send(nexus, name, cdb, list, sizeof list);
 }
 
 int main(void)
@@ -32,13 +49,20 @@ int main(void)
     uint64_t made = ridge_fresh(8, format, &unit, owners, 2), address = 0;
     printf("fresh store of 8 blocks and 2 slots: answer %d\n", (int)made);
     memcpy(block, "snow load 1.7 kN/m2", 20);
-    send("WRITE", 0x2A, 7);
-    send("READ", 0x28, 7);
+    move(0, "WRITE of block 7", 0x2A, 7);
+    move(0, "READ of block 7", 0x28, 7);
     printf("read: %s\n", (const char *)data_in);
-    send("READ", 0x28, 8);
+    move(0, "READ of block 8", 0x28, 8);
     for (int byte = 12; byte < 20; byte++)
         address = address << 8 | sense[byte];
     printf("sense: key %02X, codes %02X %02X, address %d\n", sense[1], sense[2],
            sense[3], (int)address);
+
+    reserve_out(0, "REGISTER", 0, 0, 0xA0);
+    reserve_out(1, "REGISTER", 0, 0, 0xA1);
+    reserve_out(0, "PREEMPT of the other", 4, 0xA0, 0xA1);
+    move(1, "READ of block 7", 0x28, 7);
+    printf("sense: key %02X, codes %02X %02X\n", sense[1], sense[2], sense[3]);
+    move(1, "READ of block 7", 0x28, 7);
     return 0;
 }

@@ -52,6 +52,7 @@ const char *name_of_answer(uint64_t answer)
     case RIDGE_CONFLICT: return "reservation conflict";
     case RIDGE_UNUSABLE: return "unusable call";
     case RIDGE_BUFFER_SHORT: return "a buffer too short";
+    case RIDGE_ATTENTION: return "an attention was waiting";
     default: return "no answer of the table";
     }
 }

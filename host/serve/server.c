@@ -119,7 +119,9 @@ static void tell_ready(int was_there)
 
 /* ---- one command ---- */
 
-/* Gives 1 exactly if the store, as it is now, may be told of. */
+/* Gives 1 exactly if the store, as it is now, may be told of. What is compared is
+   the whole of it: a refusal changes it too where it tells an attention, which
+   the next server must not tell again. */
 static int keep(void)
 {
     if (store_same(&before, &store))

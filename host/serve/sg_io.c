@@ -80,7 +80,7 @@ static int status_of(uint32_t answer, uint8_t *status)
     case 0:
         *status = STATUS_GOOD;
         return 0;
-    case 1: case 2: case 3: case 4: case 5: case 6: case 7: case 8:
+    case 1: case 2: case 3: case 4: case 5: case 6: case 7: case 8: case 13:
         *status = STATUS_CHECK_CONDITION;
         return 0;
     case 10:

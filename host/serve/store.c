@@ -3,17 +3,20 @@
    memory. When the record gains fields, this file learns them, STORE_LAYOUT
    rises, and store_unpack keeps reading the layouts before it.
 
-   Layout 2, which store_pack writes, numbers most significant byte first:
-     0-3    slots
-     4-7    numbers of the record, 20
-     8-15   the format of sense, 70h fixed or 72h descriptor
-     16-175 the record, 8 bytes a number: capacity, generation, type, holder,
-            the nexuses of the 8 places, the keys of the 8 places
-     176-   the owners, 8 bytes a slot
-            the medium, 512 bytes a slot
+   Layout 3, which store_pack writes, numbers most significant byte first:
+     0-3     slots
+     4-7     numbers of the record, 20
+     8-15    the format of sense, 70h fixed or 72h descriptor
+     16-175  the record, 8 bytes a number: capacity, generation, type, holder,
+             the nexuses of the 8 places, the keys of the 8 places
+     176-191 what waits for nexuses 0 to 15, a byte each: 0 nothing, 1 that
+             registrations were preempted, 2 reservations preempted, 3 released
+     192-    the owners, 8 bytes a slot
+             the medium, 512 bytes a slot
 
-   Layout 1, which servers wrote when sense had one format, is the same without
-   bytes 8-15: its store has fixed sense. */
+   Layout 2, which servers wrote when there were no attentions, is the same
+   without bytes 176-191: nothing waits in its store. Layout 1, of when sense had
+   one format, is layout 2 without bytes 8-15: its store has fixed sense. */
 #include "store.h"
 
 #include <string.h>
@@ -21,7 +24,9 @@
 #include "numbers.h"
 
 enum {
-    LAYOUT_WITHOUT_FORMAT = 1,
+    LAYOUT_FIRST = 1,
+    LAYOUT_WITH_FORMAT = 2,
+    LAYOUT_WITH_ATTENTIONS = 3,
     COUNTS_BYTES = 8,
     FORMAT_BYTES = 8,
     NUMBER_BYTES = 8,
@@ -42,7 +47,8 @@ enum {
 };
 
 _Static_assert(COUNTS_BYTES + FORMAT_BYTES == STORE_HEAD_BYTES &&
-                   RECORD_NUMBERS * NUMBER_BYTES == STORE_RECORD_BYTES,
+                   RECORD_NUMBERS * NUMBER_BYTES == STORE_RECORD_BYTES &&
+                   (int)RIDGE_NEXUSES == STORE_ATTENTION_BYTES,
                "another head or record needs another layout");
 
 int store_fresh(struct store *store, uint64_t capacity, uint64_t format,
@@ -126,12 +132,17 @@ int store_same(const struct store *one, const struct store *other)
 /* What stands before the record. */
 static size_t head_bytes(uint32_t layout)
 {
-    return COUNTS_BYTES + (layout == LAYOUT_WITHOUT_FORMAT ? 0 : FORMAT_BYTES);
+    return COUNTS_BYTES + (layout >= LAYOUT_WITH_FORMAT ? FORMAT_BYTES : 0);
+}
+
+static size_t attention_bytes(uint32_t layout)
+{
+    return layout >= LAYOUT_WITH_ATTENTIONS ? STORE_ATTENTION_BYTES : 0;
 }
 
 static size_t packed_bytes(uint32_t layout, uint64_t slots)
 {
-    return head_bytes(layout) + STORE_RECORD_BYTES +
+    return head_bytes(layout) + STORE_RECORD_BYTES + attention_bytes(layout) +
            (NUMBER_BYTES + RIDGE_BLOCK_BYTES) * (size_t)slots;
 }
 
@@ -193,7 +204,8 @@ size_t store_pack(const struct store *store, uint8_t *bytes)
     put_number(bytes + 4, RECORD_NUMBERS, 4);
     uint8_t *at = put_numbers(bytes + COUNTS_BYTES, &store->format, 1);
     at = put_record(at, &store->unit);
-    at = put_numbers(at, store->owners, store->slots);
+    memcpy(at, store->unit.attentions, STORE_ATTENTION_BYTES);
+    at = put_numbers(at + STORE_ATTENTION_BYTES, store->owners, store->slots);
     memcpy(at, store->medium, store->slots * RIDGE_BLOCK_BYTES);
     return packed_bytes(STORE_LAYOUT, store->slots);
 }
@@ -214,9 +226,9 @@ static int is_usable(struct store *store)
 static const char *take_format(const uint8_t *bytes, uint32_t layout,
                                uint64_t *format)
 {
-    *format = layout == LAYOUT_WITHOUT_FORMAT
-                  ? RIDGE_FIXED
-                  : number_at(bytes + COUNTS_BYTES, FORMAT_BYTES);
+    *format = layout >= LAYOUT_WITH_FORMAT
+                  ? number_at(bytes + COUNTS_BYTES, FORMAT_BYTES)
+                  : RIDGE_FIXED;
     return *format == RIDGE_FIXED || *format == RIDGE_DESCRIPTOR
                ? NULL
                : "its format of sense is neither fixed nor descriptor";
@@ -226,7 +238,7 @@ const char *store_unpack(struct store *store, uint32_t layout,
                          const uint8_t *bytes, size_t count)
 {
     memset(store, 0, sizeof *store);
-    if (layout != LAYOUT_WITHOUT_FORMAT && layout != STORE_LAYOUT)
+    if (layout < LAYOUT_FIRST || layout > STORE_LAYOUT)
         return "its store is in a layout that this program does not know";
     if (count < head_bytes(layout))
         return "its store is cut short";
@@ -242,8 +254,10 @@ const char *store_unpack(struct store *store, uint32_t layout,
     if (wrong != NULL)
         return wrong;
     store->slots = (size_t)slots;
-    const uint8_t *at = take_numbers(record + STORE_RECORD_BYTES,
-                                     store->owners, store->slots);
+    const uint8_t *at = record + STORE_RECORD_BYTES;
+    memcpy(store->unit.attentions, at, attention_bytes(layout));
+    at = take_numbers(at + attention_bytes(layout), store->owners,
+                      store->slots);
     memcpy(store->medium, at, store->slots * RIDGE_BLOCK_BYTES);
     return is_usable(store) ? NULL : "its store is not in a valid state";
 }

@@ -11,12 +11,14 @@
 
 enum {
     /* The layout of a store in bytes that store_pack writes. */
-    STORE_LAYOUT = 2,
+    STORE_LAYOUT = 3,
     /* Enough for either format. */
     STORE_SENSE_BYTES = RIDGE_DESCRIPTOR_SENSE_BYTES,
     STORE_HEAD_BYTES = 16,
     STORE_RECORD_BYTES = 160,
+    STORE_ATTENTION_BYTES = 16,
     STORE_BYTES_MOST = STORE_HEAD_BYTES + STORE_RECORD_BYTES +
+                       STORE_ATTENTION_BYTES +
                        (8 + RIDGE_BLOCK_BYTES) * RIDGE_SLOTS
 };
 

@@ -9,8 +9,9 @@
    the store is kept here by the same library. Every answer must be the copy's.
    After the kill the image must be a whole one, and its store exactly the copy,
    or the copy after the one command that was sent and not answered. The next
-   server must then answer from that store. The store has descriptor sense,
-   which no server falls back to: one that forgets the format shows.
+   server must then answer from that store, and tell each nexus what waits for
+   it, once. The store has descriptor sense, which no server falls back to: one
+   that forgets the format shows.
 
    Prints what was killed when; ends with 0 exactly if all was as it must be. */
 #define _GNU_SOURCE
@@ -46,7 +47,8 @@ enum {
 enum outcome { ANSWERED, NOT_SENT, UNANSWERED };
 
 static struct {
-    unsigned long answered, changes, done, not_done, unchanging, between, starting;
+    unsigned long answered, changes, told, done, not_done, unchanging, between,
+        starting;
 } counts;
 
 static char image_path[PATH_MAX], socket_path[PATH_MAX], log_path[PATH_MAX];
@@ -202,16 +204,21 @@ static void hold_to_copy(const struct store_call *asked, const struct ask *ask)
         fail("an answer that is not the store's", "");
     counts.answered++;
     counts.changes += !store_same(&was, &copy);
+    counts.told += answer == RIDGE_ATTENTION;
 }
 
+/* Leaves in `after` what the copy is if the command was done. */
 static enum outcome ask_it(const struct store_call *call)
 {
+    struct store_call same = *call;
     struct ask ask = {
         .request = {.nexus = (uint32_t)call->nexus,
                     .cdb_bytes = (uint32_t)call->cdb_bytes,
                     .data_out_bytes = (uint32_t)call->data_out_bytes,
                     .data_in_bytes = (uint32_t)call->data_in_bytes},
         .cdb = call->cdb, .data_out = call->data_out, .data_in = heard};
+    after = copy;
+    store_execute(&after, &same);
     enum ask_outcome outcome = ask_server(socket_path, &ask);
     if (outcome == ASK_NO_REPLY)
         fail("a reply that is none", "");
@@ -295,11 +302,15 @@ static struct store_call read_all(void)
     return call;
 }
 
-/* Registers (6), reserves (1), releases (2) or clears (3), with the nexus's
-   own key. */
+/* Registers, reserves, releases, clears or preempts, with the nexus's own key. The
+   last three may leave attentions to others. */
 static struct store_call random_reservation(void)
 {
-    static const uint8_t actions[] = {6, 6, 1, 2, 3, 3, 3};
+    enum { RESERVE = 1, RELEASE, CLEAR, PREEMPT, REGISTER_AND_IGNORE = 6 };
+    static const uint8_t actions[] = {REGISTER_AND_IGNORE, REGISTER_AND_IGNORE,
+                                      REGISTER_AND_IGNORE, REGISTER_AND_IGNORE,
+                                      RESERVE, RELEASE, CLEAR, CLEAR, CLEAR,
+                                      PREEMPT, PREEMPT};
     static const uint8_t types[] = {1, 3, 5, 6, 7, 8};
     struct store_call call = new_call(10, 24, 0);
     cdb[0] = 0x5F;
@@ -307,7 +318,17 @@ static struct store_call random_reservation(void)
     cdb[2] = types[chance(sizeof types)];
     cdb[8] = 24;
     data_out[7] = (uint8_t)(call.nexus + 1);
-    data_out[15] = cdb[1] == 6 ? (uint8_t)(call.nexus + 1) : 0;
+    if (cdb[1] == REGISTER_AND_IGNORE)
+        data_out[15] = (uint8_t)(call.nexus + 1);
+    if (cdb[1] == PREEMPT)
+        data_out[15] = (uint8_t)(chance(NEXUSES) + 1);
+    return call;
+}
+
+static struct store_call test_unit_ready(uint64_t nexus)
+{
+    struct store_call call = new_call(6, 0, 0);
+    call.nexus = nexus;
     return call;
 }
 
@@ -322,7 +343,7 @@ static struct store_call reservation_in(uint8_t action)
 
 static struct store_call random_call(void)
 {
-    uint64_t kind = chance(24);
+    uint64_t kind = chance(28);
     if (kind < 13)
         return random_write();
     if (kind < 17)
@@ -362,9 +383,6 @@ static enum outcome load_until_killed(void)
     unsigned long asked = 0;
     do {
         struct store_call call = random_call();
-        struct store_call same = call;
-        after = copy;
-        store_execute(&after, &same);
         outcome = ask_it(&call);
         asked++;
     } while (outcome == ANSWERED);
@@ -372,21 +390,30 @@ static enum outcome load_until_killed(void)
     return outcome;
 }
 
-/* What the whole store can tell: keys, reservation, blocks, map. */
-static struct store_call probe_call(int which)
+/* What the whole store can tell: what waits for each nexus, which is told in
+   place of anything else and therefore first; keys, reservation, blocks, map. */
+static struct store_call probe_call(unsigned which)
 {
-    if (which < 2)
-        return reservation_in((uint8_t)which);
-    return which == 2 ? read_all() : read_map();
+    if (which < NEXUSES)
+        return test_unit_ready(which);
+    switch (which - NEXUSES) {
+    case 0:
+    case 1:
+        return reservation_in((uint8_t)(which - NEXUSES));
+    case 2:
+        return read_all();
+    default:
+        return read_map();
+    }
 }
 
 static enum outcome probe(void)
 {
-    for (int which = 0; which < 4; which++) {
+    for (unsigned which = 0; which < NEXUSES + 4; which++) {
         struct store_call call = probe_call(which);
         enum outcome outcome = ask_it(&call);
         if (outcome != ANSWERED)
-            return outcome == UNANSWERED ? NOT_SENT : outcome;
+            return outcome;
     }
     return ANSWERED;
 }
@@ -402,9 +429,11 @@ static void round_of_killing(void)
     int ready = is_ready();
     if (!ready && !killed)
         fail("the server did not start", "");
-    if (ready)
+    if (ready) {
         seconds_a_start = 0.5 * seconds_a_start + 0.5 * (now() - began);
-    if (ready && probe() == ANSWERED) {
+        outcome = probe();
+    }
+    if (outcome == ANSWERED) {
         if (!early)
             arm_kill(2 * CALLS_A_ROUND * seconds_a_call);
         outcome = load_until_killed();
@@ -459,10 +488,10 @@ static void tell(unsigned long rounds)
     printf("%lu kills: %lu with a command in flight (%lu found done, %lu not done, "
            "%lu that change nothing), %lu between commands, %lu while starting; "
            "%lu commands answered, %lu of them changed the store, and every one "
-           "is there\n", rounds,
+           "is there; %lu told of an attention\n", rounds,
            counts.done + counts.not_done + counts.unchanging, counts.done,
            counts.not_done, counts.unchanging, counts.between, counts.starting,
-           counts.answered, counts.changes);
+           counts.answered, counts.changes, counts.told);
 }
 
 int main(int count, char **words)

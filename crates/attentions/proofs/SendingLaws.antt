@@ -1,22 +1,18 @@
 -- A list written from its front, one element after another: the first i are those of the new list, the others those of the old one. And the test of
 -- every element so far. Assumes nothing.
 use mathlib.Core.Path.{_≡_, refl, sym, ap, _∙_}
-use mathlib.Core.Bool.{Bool, true, false, not, _&&_}
+use mathlib.Core.Bool.{Bool, true, false, _&&_}
 use mathlib.Core.List.{List, [], _∷_}
 use Prim.Native.Nat.{ℕ, zero, suc, _+_, _≤_, _<_}
 use native.Mathlib.Numerals.{add-one}
 use native.Mathlib.Omega.{arith}
-use lib.Dec.{T, leb}
+use lib.Dec.{leb}
 use lib.ListN.{length, getD, set, drop}
 use lib.Seq.{drop-cons, drop-length}
-use Rattle.fields.proofs.Tests.{T-false}
 use Rattle.rights.specs.declared.Rights.{Rights}
 use Rattle.rights.specs.declared.Action.{Action}
-use Rattle.rights.specs.declared.Action.the-variants.{Register, Reserve, Release, Clear, Preempt, RegisterIgnoring}
 use Rattle.rights.specs.Attentions.{eachOk}
-use Rattle.rights.specs.Notices.{released, releaseNotice, notice, renewed, notifiedFrom, notified}
-use Rattle.rights.proofs.AttentionLaws.{notified-none}
-use Rattle.attentions.specs.Silent.{silent}
+use Rattle.rights.specs.Notices.{renewed, notifiedFrom, notified}
 
 -- ---- what is not there is nothing
 
@@ -108,21 +104,3 @@ module _ (xs : List ℕ) (i : ℕ) (old : Bool) (inv : (old && eachOk (drop i xs
 
   pub every-end : length xs ≡ i → old ≡ eachOk xs
   every-end h = sym (and-true old) ∙ ap (λ (b : Bool). old && b) (sym (each-end xs i h)) ∙ inv
-
--- ---- an action that tells nobody anything
-
-silent-release : (before after : Rights) (m : ℕ) → T (not (released before after)) → releaseNotice before after m ≡ 0
-unfolding releaseNotice
-silent-release before after m t = rw (T-false (released before after) t)
-
-silent-notice : (a : Action) (before after : Rights) (m : ℕ) → T (silent a before after) → notice a before after m ≡ 0
-unfolding silent notice
-silent-notice Register before after m t = silent-release before after m t
-silent-notice Reserve before after m t = refl
-silent-notice Release before after m t = silent-release before after m t
-silent-notice Clear before after m t = absurd t
-silent-notice Preempt before after m t = absurd t
-silent-notice RegisterIgnoring before after m t = silent-release before after m t
-
-pub silent-sends : (a : Action) (before after : Rights) (n : ℕ) → T (silent a before after) → (xs : List ℕ) → xs ≡ notified a before after n xs
-silent-sends a before after n t xs = sym (notified-none a before after n (λ m. silent-notice a before after m t) xs)

@@ -1,7 +1,6 @@
 // Notices: what an action has wait for others, by the rights that it found and those that it left.
 ghost use mathlib.Core.Path.{_≡_};
 ghost use Rattle.rights.specs.Places.{registered};
-ghost use Rattle.attentions.specs.Silent.{silent};
 ghost use Rattle.rights.specs.Notices.{removed, forRegistrants, released, releaseNotice, notice, renewed, notified};
 use reservations::places;
 use reservations::places::Want;
@@ -90,14 +89,7 @@ fn notice(action: Action, before: Rights, after: Rights, nexus: u64) -> u8
 }
 
 // What waits for a nexus after an action of the sender, where `old` waited before.
-fn renewed(
-    action: Action,
-    before: Rights,
-    after: Rights,
-    sender: u64,
-    nexus: u64,
-    old: u8,
-) -> u8
+fn renewed(action: Action, before: Rights, after: Rights, sender: u64, nexus: u64, old: u8) -> u8
     ensures { λ r. ⌜ r ≡ renewed action before after sender nexus old ⌝ }
 {
     if nexus == sender {
@@ -105,20 +97,6 @@ fn renewed(
     }
     let new = notice(action, before, after, nexus);
     if new == NO_ATTENTION { old } else { new }
-}
-
-// Whether an action tells nobody anything, whoever asks.
-fn is_silent(action: Action, before: Rights, after: Rights) -> bool
-    ensures { λ r. ⌜ r ≡ silent action before after ⌝ }
-{
-    match action {
-        Action::Register => !released(before, after),
-        Action::Reserve => true,
-        Action::Release => !released(before, after),
-        Action::Clear => false,
-        Action::Preempt => false,
-        Action::RegisterIgnoring => !released(before, after),
-    }
 }
 
 // What waits for each after an action of the sender.
@@ -131,10 +109,6 @@ pub fn send(
 ) -> [u8; NEXUSES]
     ensures { λ r. ⌜ r ≡ notified action before after sender attentions ⌝ }
 {
-    // most actions tell nobody, and need no look at who is registered
-    if is_silent(action, before, after) {
-        return attentions;
-    }
     let mut all = attentions;
     let mut i: usize = 0;
     while i < NEXUSES {

@@ -153,10 +153,11 @@ module _ (s : Store) (n : ℕ) (cdb out in′ sense : List ℕ) where
       step-asks : sensed (servedBy (q .command) q s (callOf n cdb out in′ sense)) ≡ step s (callOf n cdb out in′ sense)
       unfolding step stepBy seenOf servedBy serves replyOf dataBy storeBy readyFor refusedUnit
       step-asks =
-          rw
-          (answer-asks (entryOf cdb) s (callOf n cdb out in′ sense) q h w,
-          asks-request (entryOf cdb) (s .unit) n cdb q w,
-          T-false (isAttention (first (commandRows (q .command) q s (callOf n cdb out in′ sense)))) (command-quiet (q .command) q s (callOf n cdb out in′ sense)))
+          rw (
+            answer-asks (entryOf cdb) s (callOf n cdb out in′ sense) q h w,
+            asks-request (entryOf cdb) (s .unit) n cdb q w,
+            T-false (isAttention (first (commandRows (q .command) q s (callOf n cdb out in′ sense)))) (command-quiet (q .command) q s (callOf n cdb out in′ sense)),
+          )
 
       pub step-served : (r : Outcome) (owners medium dataIn sense′ : List ℕ)
           → served (s .format) r owners medium dataIn ≡ servedBy (q .command) q s (callOf n [] out in′ []) → sense′ ≡ senseAfter (s .format) (r .answer) sense

@@ -9,6 +9,7 @@ use Rattle.demands.specs.Cases.{cases, caseA, caseE}
 use Rattle.demands.specs.FurtherCases.{rising, blocks, caseMostWritten, furtherCases}
 use Rattle.demands.specs.ClearingCases.{same-16, status-lent, status-16, told-run, told-head, caseSame, caseSameRefused, caseStatus, caseGuarded, caseReadable, clearingCases}
 use Rattle.demands.specs.SenseCases.{pastEndTold, noRoomTold, fieldTold, listTold, headTold, inFormat, wide, unmapThree, caseDescribed, caseRoom, caseShown, caseNought, caseFull, caseNoFormat, caseValidIsNone, senseCases}
+use Rattle.demands.specs.AttentionCases.{leftWaiting, inquiry, inquiryWrong, caseLearns, caseFirst, caseClear, caseRelease, caseUnregister, casePreempt, caseAttentionDescribed, caseFour, caseMany, attentionCases}
 use Rattle.demands.specs.Comparisons.{withoutMedium}
 use Rattle.demands.specs.Useless.{says, pretends}
 use Rattle.demands.proofs.Computing.{meaning}
@@ -29,6 +30,10 @@ clearing-cases-pass = tt
 pub sense-cases-pass : T (allPassed step senseCases)
 unfolding meaning pastEndTold noRoomTold fieldTold listTold headTold inFormat wide unmapThree caseDescribed caseRoom caseShown caseNought caseFull caseNoFormat caseValidIsNone senseCases
 sense-cases-pass = tt
+
+pub attention-cases-pass : T (allPassed step attentionCases)
+unfolding meaning headTold inFormat leftWaiting inquiry inquiryWrong caseLearns caseFirst caseClear caseRelease caseUnregister casePreempt caseAttentionDescribed caseFour caseMany attentionCases
+attention-cases-pass = tt
 
 -- "Count 128 passes", in a WRITE: all but the bytes in the slots
 pub most-written-passes : T (passedBy withoutMedium step caseMostWritten)

@@ -236,7 +236,7 @@ shut-out-still s c o h w =
     (λ t. unwaited s c w t)
 
 -- Q-6: "such a call may change only its own": a GOOD one is INQUIRY, which changes nothing
-inquiry-out-not : (c : Call) → T (isInquiry (c .cdb)) → T (not (isOut c))
+pub inquiry-out-not : (c : Call) → T (isInquiry (c .cdb)) → T (not (isOut c))
 unfolding isInquiry isOut
 inquiry-out-not c t = rw (eqb→eq (byte 0 (c .cdb)) 0x12 t) tt
 

@@ -28,6 +28,7 @@ pub mod Telling
 pub mod Conflicts
 pub mod Reservations
 pub mod ZeroKey
+pub mod Attentions
 pub mod TakenOver
 pub mod WrongBuilds
 pub mod WriteSame

@@ -9,7 +9,8 @@ use Rattle.demands.proofs.Storage.{storage}
 use Rattle.demands.proofs.Reservations.{reservations}
 use Rattle.demands.proofs.Conflicts.{cells-decide}
 use Rattle.demands.proofs.ZeroKey.{zero-key, rules-agree}
-use Rattle.demands.proofs.TakenOver.{fresh-taken-over}
+use Rattle.demands.proofs.Attentions.{attentions, none-lost}
+use Rattle.demands.proofs.TakenOver.{fresh-taken-over, fresh-learns}
 use Rattle.demands.proofs.Telling.{telling}
 use Rattle.demands.proofs.WriteSame.{writes-same}
 use Rattle.demands.proofs.MapTold.{map-told}
@@ -39,8 +40,11 @@ proved = record {
   pointed = pointed;
   places-true = places-true;
   sensed = sensed;
+  attentions = attentions;
+  none-lost = none-lost;
   from-fresh = from-fresh;
   taken-over = fresh-taken-over;
+  learns = fresh-learns;
   demand-3 = demand-3;
   secrecy = secrecy;
   faithful = faithful;

@@ -224,7 +224,7 @@ module _ (s : Store) (c : Call) (w : AsksFor (Alters Release) c) where
 -- ---- REGISTER
 
 -- actions 0 and 6 are the same where nothing refuses them
-registers-acted : (a : Action) (r : Rights) (n : ℕ) (o : Parameters) → T (registers a) → acted a r n o ≡ registering r n (o .service)
+pub registers-acted : (a : Action) (r : Rights) (n : ℕ) (o : Parameters) → T (registers a) → acted a r n o ≡ registering r n (o .service)
 unfolding registers acted
 registers-acted Register r n o t = refl
 registers-acted Reserve r n o t = absurd t

@@ -1,17 +1,17 @@
 -- The pair that takes over from a dead third, from a fresh store, proved of `step`.
 -- Assumes nothing.
 use mathlib.Core.Path.{_≡_, refl, sym, ap, _∙_, subst}
-use mathlib.Core.Logic.{_≢_}
+use mathlib.Core.Logic.{_≢_, _⊎_, inl, inr}
 use mathlib.Core.Bool.{Bool, true, false, not, _&&_, cond}
 use mathlib.Core.List.{List, [], _∷_}
-use Prim.Native.Nat.{ℕ, _*_}
+use Prim.Native.Nat.{ℕ, _*_, _≤_}
 use native.Mathlib.Omega.{arith}
 use lib.Dec.{T, eqb, eqb-refl}
 use lib.ListN.{length}
 use borrow.Author.Tests.{eq-eqb, ne-eqb}
 use Rattle.fields.specs.Bits.{numberIn}
 use Rattle.fields.proofs.Tests.{by-equal, T-true}
-use Rattle.answers.specs.declared.Answer.the-variants.{Conflict}
+use Rattle.answers.specs.declared.Answer.the-variants.{Refused, Conflict}
 use Rattle.answers.specs.Answers.{noPlace}
 use Rattle.answers.specs.Order.{firstOf}
 use Rattle.answers.proofs.OrderLaws.{row-pass, row-end}
@@ -42,6 +42,11 @@ use Rattle.demands.proofs.Computing.{meaning}
 use Rattle.demands.proofs.Usable.{usable-stays, format-after}
 use Rattle.demands.proofs.Fresh.{fresh-usable}
 use Rattle.demands.proofs.Altering.{altered, altered-attentions}
+use Rattle.demands.proofs.Attentions.{returned, only-then, cleared, sender-untold, zero-key-tells}
+use Rattle.demands.specs.Attentions.{waits, newest, Learns}
+use Rattle.answers.specs.declared.Refusal.the-variants.{RegistrationsPreempted}
+use Rattle.rights.specs.Attentions.{refusalOf}
+use Rattle.store.proofs.Parts.{itself-righted, call-nexus}
 use Rattle.demands.proofs.ZeroKey.{sent-answer, zero-answer, zero-registrations, zero-type, zero-holders, zero-rises, zero-keys, zero-reservation, zero-others}
 use Rattle.demands.proofs.Moving.{good-any}
 
@@ -79,6 +84,13 @@ module _ (s : Store) (c : Call) (w : Sends (s .format) Register c) (u : T (usabl
       altered-attentions Register s c (w .asked) joins-good
       ∙ notified-none Register (s .unit .rights) _ (c .nexus) (λ m. unreserved-notice (s .unit .rights) _ m none) (s .unit .attentions)
       ∙ calm
+
+one-zero : _≡_ {A = ℕ} 1 0 → ⊥
+one-zero e = omega arith
+
+preempted-is : Refused (refusalOf 1) ≡ Refused RegistrationsPreempted
+unfolding refusalOf
+preempted-is = refl
 
 -- ---- the rights on the way
 
@@ -286,6 +298,84 @@ module _ {format : ℕ} (t : Story format) where
           reservation-told = λ c a g. rw (← four, ← sender-has) (zero-reservation after-reserve (t .preempt) w e z c a g ∙ good-any _ format _ c);
           others = λ m c a g d. zero-others after-reserve (t .preempt) w e z m c a (ap (λ (v : ℕ). byItself v c) format-reserve ∙ g) (λ i. d (i ∙ t .preempts-from));
         }
+
+    -- ---- both others learn of it at their next command
+
+    reserve-waits : (n : ℕ) → waits after-reserve n ≡ 0
+    unfolding waits waiting
+    reserve-waits n = rw reserve-calm (waiting-none n)
+
+    other-than : (i : Which) → i ≢ t .sender → t .nexus i ≢ t .preempt .nexus
+    other-than i d e = d (t .apart i (t .sender) (e ∙ t .preempts-from))
+
+    within : (i : Which) → t .nexus i ≤ 15
+    unfolding byItself
+    within i = subst (λ (n : ℕ). n ≤ 15) (t .registers-from i) (call-nexus format (t .register i) (itself-righted format (t .register i) (t .registers i .right) .call))
+
+    told-all : (n : ℕ) → n ≤ 15 → n ≢ t .preempt .nexus → waits (after step after-reserve (t .preempt)) n ≡ cond (registered n three-there) 1 0
+    unfolding isRegistered newest
+    told-all n h d =
+        zero-key-tells after-reserve (t .preempt) (t .preempts .asked) good-preempt (t .preempts-zero) n h d
+        ∙ rw (reserve-waits n, rights-reserve) (go (registered n three-there))
+      where
+        go : (b : Bool) → newest (cond b 1 0) 0 ≡ cond b 1 0
+        go true = refl
+        go false = refl
+
+    stranger-there : (n : ℕ) → ((i : Which) → n ≢ t .nexus i) → registered n three-there ≡ false
+    unfolding registered isOf used
+    stranger-there n d =
+        simp (
+          key-set first-one,
+          key-set second-one,
+          key-set third-one,
+          ne-eqb (t .nexus first-one) n (λ e. d first-one (sym e)),
+          ne-eqb (t .nexus second-one) n (λ e. d second-one (sym e)),
+          ne-eqb (t .nexus third-one) n (λ e. d third-one (sym e)),
+        )
+
+    same-one : (i j : Which) → (i ≡ j → ⊥) ⊎ (i ≡ j)
+    unfolding isFirst isSecond
+    same-one first-one first-one = inr refl
+    same-one first-one second-one = inl (λ e. subst (λ (i : Which). T (isFirst i)) e tt)
+    same-one first-one third-one = inl (λ e. subst (λ (i : Which). T (isFirst i)) e tt)
+    same-one second-one first-one = inl (λ e. subst (λ (i : Which). T (isSecond i)) e tt)
+    same-one second-one second-one = inr refl
+    same-one second-one third-one = inl (λ e. subst (λ (i : Which). T (isSecond i)) e tt)
+    same-one third-one first-one = inl (λ e. subst (λ (i : Which). T (not (isFirst i))) e tt)
+    same-one third-one second-one = inl (λ e. subst (λ (i : Which). T (not (isSecond i))) e tt)
+    same-one third-one third-one = inr refl
+
+    nobody-told : (n : ℕ) → n ≤ 15 → ((i : Which) → i ≢ t .sender → n ≢ t .nexus i) → waits (after step after-reserve (t .preempt)) n ≡ 0
+    nobody-told n h d =
+        by-equal n (t .preempt .nexus) (λ _. waits (after step after-reserve (t .preempt)) n ≡ 0)
+        (λ e. rw e (sender-untold Preempt after-reserve (t .preempt) (t .preempts .asked) good-preempt (subst (λ (m : ℕ). m ≤ 15) e h) ∙ reserve-waits (t .preempt .nexus)))
+        (λ k. told-all n h k ∙ ap (λ (b : Bool). cond b 1 0) (stranger-there n (λ i e. elim (same-one i (t .sender)) [
+          | inl x ↦ d i x e
+          | inr x ↦ k (e ∙ ap (t .nexus) x ∙ sym (t .preempts-from))
+        ])))
+
+    waits-for : (i : Which) → i ≢ t .sender → waits (after step after-reserve (t .preempt)) (t .nexus i) ≡ 1
+    waits-for i d = told-all (t .nexus i) (within i) (other-than i d) ∙ ap (λ (b : Bool). cond b 1 0) (there i)
+
+    pub learns : Learns step s t
+    unfolding events ending afterAll afterEvent
+    learns = record {
+      waiting = waits-for;
+      nobody-else = nobody-told;
+      next-command = λ i d c f q m n.
+          let w : waits (after step after-reserve (t .preempt)) (c .nexus) ≡ 1 = ap (waits (after step after-reserve (t .preempt))) f ∙ waits-for i d in
+          returned (after step after-reserve (t .preempt)) c (λ z. one-zero (sym w ∙ z)) q m n ∙ ap (λ (x : ℕ). Refused (refusalOf x)) w ∙ preempted-is;
+      then-served = λ i d c g f h e z.
+          only-then (after step (after step after-reserve (t .preempt)) c) g z .0
+          (ap (waits (after step (after step after-reserve (t .preempt)) c)) (h ∙ sym f) ∙ cleared (after step after-reserve (t .preempt)) c e);
+    }
+
+pub fresh-learns : (capacity format slots : ℕ) (medium : List ℕ) → T (capacityOk capacity) → T (formatOk format) → T (slotsOk slots)
+    → length medium ≡ 512 * slots → (t : Story format) → Learns step (freshStore capacity format slots medium) t
+unfolding freshStore freshUnit
+fresh-learns capacity format slots medium x f y e t =
+    learns t (freshStore capacity format slots medium) (fresh-usable capacity format slots medium x f y e) refl refl refl
 
 -- every fresh store within its bounds is one
 pub fresh-taken-over : (capacity format slots : ℕ) (medium : List ℕ) → T (capacityOk capacity) → T (formatOk format) → T (slotsOk slots)

@@ -5,6 +5,7 @@ pub mod Cases
 pub mod FurtherCases
 pub mod ClearingCases
 pub mod SenseCases
+pub mod AttentionCases
 pub mod Comparisons
 pub mod Generation
 pub mod Useless
@@ -18,6 +19,7 @@ pub mod Reservations
 pub mod ConflictTable
 pub mod Telling
 pub mod ZeroKey
+pub mod Attentions
 pub mod WrongBuilds
 pub mod WriteSame
 pub mod MapTold

@@ -17,6 +17,7 @@ use Rattle.demands.specs.Demands.{Demand1, Demand2, Storage, Demand3, Se
 use Rattle.demands.specs.Reservations.{Reservations}
 use Rattle.demands.specs.ConflictTable.{TableIsRule, CellsDecide}
 use Rattle.demands.specs.ZeroKey.{ZeroKey, RulesAgree, Story, TakenOver}
+use Rattle.demands.specs.Attentions.{Attentions, NoneLost, Learns}
 use Rattle.demands.specs.Telling.{Telling}
 use Rattle.demands.specs.WriteSame.{WritesSame}
 use Rattle.demands.specs.MapTold.{OnePage, MapTold}
@@ -30,7 +31,8 @@ pub record Proved : Type 0 where
   -- every call gets a listed answer, and a refusal changes nothing
   pub demand-1 : Demand1 step
   -- every answer and the whole state after it are what the rules say; and so it looks to those who write and read, who reserve, who take over, who ask,
-  -- who clear logs, who ask for the map, who keep to the limits that they have read, who want to know which byte was wrong, and who read sense
+  -- who clear logs, who ask for the map, who keep to the limits that they have read, who want to know which byte was wrong, who read sense, and who are told
+  -- what others did to their registration or reservation
   pub demand-2 : Demand2 step
   pub storage : Storage
   pub reservations : Reservations step
@@ -46,11 +48,15 @@ pub record Proved : Type 0 where
   pub pointed : Pointed step
   pub places-true : PlacesTrue
   pub sensed : Sensed step
+  pub attentions : Attentions step
+  pub none-lost : NoneLost step
   -- step by step from a fresh store
   pub from-fresh : (capacity format slots : ℕ) (medium : List ℕ) → T (capacityOk capacity) → T (formatOk format) → T (slotsOk slots)
       → length medium ≡ blockBytes * slots → FromFresh (freshStore capacity format slots medium)
   pub taken-over : (capacity format slots : ℕ) (medium : List ℕ) → T (capacityOk capacity) → T (formatOk format) → T (slotsOk slots)
       → length medium ≡ blockBytes * slots → (t : Story format) → TakenOver step (freshStore capacity format slots medium) t
+  pub learns : (capacity format slots : ℕ) (medium : List ℕ) → T (capacityOk capacity) → T (formatOk format) → T (slotsOk slots)
+      → length medium ≡ blockBytes * slots → (t : Story format) → Learns step (freshStore capacity format slots medium) t
   -- nexuses shut out from reading learn nothing of blocks and maps
   pub demand-3 : Demand3 step
   pub secrecy : Secrecy (machine step) plain

@@ -192,44 +192,45 @@ pub record Nearest (o : List ℕ) (first most i least : ℕ) : Type 0 where
 pub near-start : (o : List ℕ) (first most : ℕ) → Nearest o first most 0 most
 near-start o first most = record { within = omega arith; passed = λ j h l. absurd (omega arith); there = λ h. absurd (omega arith) }
 
-module _ (o : List ℕ) (first most i least far : ℕ) (b : i < length o) (small : most ≤ mostBlocks) (n : Nearest o first most i least)
-    (near : first ≤ getD o i 0 → getD o i 0 ≡ first + far) (low : getD o i 0 < first → mostBlocks < far) where
-  pub near-stay : least ≤ far → Nearest o first most (i + 1) least
-  near-stay f = record {
+-- one slot more, where r is the lesser of `least` and of how far its owner number lies above `first`
+module _ (o : List ℕ) (first most i least r : ℕ) (b : i < length o) (low : first ≤ mostBlocks + 1) (small : most ≤ mostBlocks) (n : Nearest o first most i least)
+    (above : first ≤ getD o i 0 → r ≡ min (getD o i 0 - first) least) (below : getD o i 0 < first → r ≡ min (getD o i 0 + 2 ^ 64 - first) least) where
+  stays : r ≡ least → (first ≤ getD o i 0 → first + least ≤ getD o i 0) → Nearest o first most (i + 1) r
+  stays e far = rw e record {
     within = n .within;
-    passed = λ j h l. by-equal j i (λ q. first + least ≤ getD o j 0) (λ e. rw e (let q = near (rw e at l) in omega arith)) (λ d. n .passed j (omega arith) l);
+    passed = λ j h l. by-equal j i (λ q. first + least ≤ getD o j 0) (λ q. rw q (far (rw q at l))) (λ d. n .passed j (omega arith) l);
     there = n .there;
   }
 
-  pub near-closer : far < least → Nearest o first most (i + 1) far
-  near-closer f =
+  comes : getD o i 0 ≡ first + r → r ≤ least → Nearest o first most (i + 1) r
+  comes x f =
       let w = n .within in
-      let x : getD o i 0 ≡ first + far =
-      test (ltb (getD o i 0) first)
-      (λ t. let q = low (ltb→lt (getD o i 0) first t) in absurd (omega arith))
-      (λ t. near (nltb→le (getD o i 0) first t)) in
       record {
         within = omega arith;
-        passed = λ j h l. by-equal j i (λ q. first + far ≤ getD o j 0) (λ e. rw e (omega arith)) (λ d. let p = n .passed j (omega arith) l in omega arith);
-        there = λ h. at-has (first + far) o i b x;
+        passed = λ j h l. by-equal j i (λ q. first + r ≤ getD o j 0) (λ e. rw e (omega arith)) (λ d. let p = n .passed j (omega arith) l in omega arith);
+        there = λ h. at-has (first + r) o i b x;
       }
 
+  pub near-next : Nearest o first most (i + 1) r
+  near-next =
+      let w = n .within in
+      test (ltb (getD o i 0) first)
+      (λ t. let l = ltb→lt (getD o i 0) first t in let e = below l in stays (omega arith) (λ h. absurd (omega arith)))
+      (λ t.
+      let l = nltb→le (getD o i 0) first t in
+      let e = above l in
+      test (leb (getD o i 0 - first) least)
+      (λ u. let k = leb→le (getD o i 0 - first) least u in comes (omega arith) (omega arith))
+      (λ u. let k = nleb→lt (getD o i 0 - first) least u in stays (omega arith) (λ h. omega arith)))
+
 -- the first block is mapped
-near-none : (o : List ℕ) (a most i least : ℕ) → Nearest o (a + 1) most i least → least ≡ 0 → 0 ≡ heldFrom false o a most
+pub near-none : (o : List ℕ) (a most i least : ℕ) → Nearest o (a + 1) most i least → least ≡ 0 → 0 ≡ heldFrom false o a most
 unfolding mapped
 near-none o a most i least n z =
     sym (held-is false o a most 0 (omega arith) (λ j l. absurd (omega arith))
     (λ l e.
     let s : suc (a + 0) ≡ a + 1 + least = omega arith in
     T-not (has (a + 1 + least) o) (false→T (has (a + 1 + least) o) (rw s at e)) (n .there (omega arith))))
-
--- and so it is where slot i has it
-pub near-here : (o : List ℕ) (a most i least far : ℕ) → i < length o → most ≤ mostBlocks → Nearest o (a + 1) most i least
-    → (a + 1 ≤ getD o i 0 → getD o i 0 ≡ a + 1 + far) → (getD o i 0 < a + 1 → mostBlocks < far) → far ≡ 0 → 0 ≡ heldFrom false o a most
-near-here o a most i least far b small n near low z =
-    test (ltb far least)
-    (λ t. near-none o a most (i + 1) far (near-closer o (a + 1) most i least far b small n near low (ltb→lt far least t)) z)
-    (λ t. let h = nltb→le far least t in near-none o a most i least n (omega arith))
 
 pub near-run : (o : List ℕ) (a most i least : ℕ) → length o ≤ i → Nearest o (a + 1) most i least → least ≡ heldFrom false o a most
 unfolding mapped

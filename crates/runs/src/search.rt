@@ -1,7 +1,7 @@
 // Finding a run: the blocks from one on that are all mapped or all unmapped, in one pass over the slots.
 ghost use mathlib.Core.Path.{_≡_};
 ghost use mathlib.Core.Bool.{true, false, not, cond};
-ghost use Prim.Native.Nat.{ℕ, _+_, _-_, _≤_, _<_, min};
+ghost use Prim.Native.Nat.{ℕ, _+_, _-_, _^_, _≤_, _<_, min};
 ghost use lib.Dec.{ltb};
 ghost use lib.ListN.{length, getD};
 ghost use Rattle.pool.specs.Bounds.{mostBlocks, mostSlots};
@@ -29,21 +29,32 @@ fn sight_from(capacity: u64, lba: Lba) -> u64
     if left <= MOST_RUN { left } else { MOST_RUN + 1 }
 }
 
-// How many of `most` blocks from `lba` on are unmapped, up to the first that is mapped: that of the least owner number from `lba`'s on.
+// The lesser of `least` and of how far `owner` lies above `first`, from below as far as through the end of the numbers.
+fn nearer(owner: u64, first: u64, least: u64) -> u64
+    ensures { λ r. ⌜ (first ≤ owner → r ≡ min (owner - first) least) × (owner < first → r ≡ min (owner + 2 ^ 64 - first) least) ⌝ }
+{
+    let far = slots::above(owner, first);
+    if far < least { far } else { least }
+}
+
+// How many of `most` blocks from `lba` on are unmapped, up to the first that is mapped: that of the least owner number from `lba`'s on. Two slots
+// a turn: what a turn costs besides them is then paid half as often.
 fn unmapped_run(owners: &[u64], lba: Lba, most: u64) -> u64
     requires { ⌜ lba .0 + most ≤ mostBlocks ⌝ }
     ensures { λ r. ⌜ r ≡ heldFrom false (now (owners .entry)) (lba .0) most ⌝ }
 {
     let first = lba.0 + 1;
     let mut least = most;
-    for i in 0..owners.len() {
-        let far = slots::above(owners[i], first);
-        if far == 0 {
+    let turns = owners.len() / 2;
+    for t in 0..turns {
+        least = nearer(owners[2 * t], first, least);
+        least = nearer(owners[2 * t + 1], first, least);
+        if least == 0 {
             return 0;
         }
-        if far < least {
-            least = far;
-        }
+    }
+    if 2 * turns < owners.len() {
+        return nearer(owners[2 * turns], first, least);
     }
     least
 }

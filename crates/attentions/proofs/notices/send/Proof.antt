@@ -1,10 +1,9 @@
 -- `attentions::notices::send` meets its contract. Assumes nothing.
-use mathlib.Core.Path.{_≡_, sym, _∙_}
+use mathlib.Core.Path.{_≡_, _∙_}
 use Prim.Native.Nat.{_-_, _≤_}
 use native.Mathlib.Omega.{arith}
 use borrow.Author.Needs.{needs}
-use Rattle.fields.proofs.Tests.{true→T}
-use Rattle.attentions.proofs.SendingLaws.{silent-sends, told, told-none, told-at, told-more, told-all}
+use Rattle.attentions.proofs.SendingLaws.{told, told-none, told-at, told-more, told-all}
 use Rattle.attentions.proofs.notices.send.Statement.{statement}
 use Rattle.attentions.proofs.notices.send.Tie as tie
 
@@ -13,12 +12,6 @@ Inv-loop action before after sender all₀ i₀ all i = (i ≤ 16) × (all ≡ t
 
 abbrev μ-loop : tie.MeasureT-loop
 μ-loop action before after sender all₀ i₀ all i = 16 - i
-
-is-silent-requires : tie.Need-is-silent-requires Inv-loop μ-loop
-is-silent-requires c κs = search needs
-
-returns : tie.Need-returns Inv-loop μ-loop
-returns c = silent-sends _ _ _ _ (true→T _ (sym (c .before .is-silent .ensures) ∙ (c .if1 .taken))) _
 
 loop-holds : tie.Need-loop-holds Inv-loop μ-loop
 loop-holds c = (omega arith, told-none _ _ _ _ _)
@@ -40,12 +33,12 @@ loop-less c = search needs
 
 loop-again : tie.Need-loop-again Inv-loop μ-loop
 loop-again c =
-    let a = c .before .before .before .before .before .args in
+    let a = c .before .before .before .args in
     let l = c .before .before .loop in
     (omega arith, simp (c .renewed .ensures, l .inv .1, told-at) (told-more (a .action) (a .before) (a .after) (a .sender) (l .i) (a .attentions) _ (search needs)))
 
-returns-2 : tie.Need-returns-2 Inv-loop μ-loop
-returns-2 c =
+returns : tie.Need-returns Inv-loop μ-loop
+returns c =
     let l = c .before .loop in
     let e : l .i ≡ 16 = omega arith in
     l .inv .1 ∙ rw e (told-all _ _ _ _ 16 _ (search needs))
@@ -56,8 +49,6 @@ send-spec =
     (tie.spec
     Inv-loop
     μ-loop
-    is-silent-requires
-    returns
     loop-holds
     array-read-renewed
     renewed-requires
@@ -65,4 +56,4 @@ send-spec =
     add-i
     loop-less
     loop-again
-    returns-2)
+    returns)

@@ -1,65 +1,116 @@
 -- `runs::search::unmapped_run` meets its contract.
 -- Assumes nothing.
-use mathlib.Core.Path.{_≡_, refl}
-use mathlib.Core.Logic.{inl, inr}
-use Prim.Native.Nat.{_≤_, _-_}
+use mathlib.Core.Path.{_≡_}
+use Prim.Native.Nat.{_+_, _*_, _≤_, _-_, _/_}
 use native.Mathlib.Omega.{arith}
 use lib.ListN.{length}
 use borrow.Author.Needs.{needs}
-use Rattle.runs.proofs.RunLaws.{Nearest, near-start, near-stay, near-closer, near-here, near-run, wraps}
+use Rattle.runs.proofs.RunLaws.{Nearest, near-start, near-next, near-none, near-run}
 use Rattle.runs.proofs.search.unmapped_run.Statement.{statement}
 use Rattle.runs.proofs.search.unmapped_run.Tie as tie
 
 abbrev Inv-loop : tie.InvT-loop
-Inv-loop owners most first least₀ i₀ i-end least i = (i ≤ i-end) × (i-end ≡ length owners) × Nearest owners first most i least
+Inv-loop owners most first least₀ turns t₀ least t = (t ≤ turns) × (2 * turns ≤ length owners) × (length owners ≤ 2 * turns + 1) × Nearest owners first most (2 * t) least
 
 abbrev μ-loop : tie.MeasureT-loop
-μ-loop owners most first least₀ i₀ i-end least i = i-end - i
+μ-loop owners most first least₀ turns t₀ least t = turns - t
 
 add-first : tie.Need-add-first Inv-loop μ-loop
 add-first c = search needs
 
 loop-holds : tie.Need-loop-holds Inv-loop μ-loop
-loop-holds c = (search needs, refl, near-start _ _ _)
+loop-holds c = (search needs, search needs, search needs, near-start _ _ _)
 
-mul-above : tie.Need-mul-above Inv-loop μ-loop
-mul-above c = search needs
+mul-nearer : tie.Need-mul-nearer Inv-loop μ-loop
+mul-nearer c = search needs
 
-shared-slice-read-above : tie.Need-shared-slice-read-above Inv-loop μ-loop
-shared-slice-read-above c = search needs
+mul-nearer-2 : tie.Need-mul-nearer-2 Inv-loop μ-loop
+mul-nearer-2 c = search needs
 
-above-requires : tie.Need-above-requires Inv-loop μ-loop
-above-requires c κs = search needs
+shared-slice-read-nearer : tie.Need-shared-slice-read-nearer Inv-loop μ-loop
+shared-slice-read-nearer c = search needs
+
+nearer-requires : tie.Need-nearer-requires Inv-loop μ-loop
+nearer-requires c κs = search needs
+
+mul-nearer-3 : tie.Need-mul-nearer-3 Inv-loop μ-loop
+mul-nearer-3 c = search needs
+
+add-nearer : tie.Need-add-nearer Inv-loop μ-loop
+add-nearer c = search needs
+
+mul-nearer-4 : tie.Need-mul-nearer-4 Inv-loop μ-loop
+mul-nearer-4 c = search needs
+
+shared-slice-read-nearer-2 : tie.Need-shared-slice-read-nearer-2 Inv-loop μ-loop
+shared-slice-read-nearer-2 c = search needs
+
+nearer-requires-2 : tie.Need-nearer-requires-2 Inv-loop μ-loop
+nearer-requires-2 c κs = search needs
 
 returns : tie.Need-returns Inv-loop μ-loop
 returns c =
-    let l = c .before .before .before .before in
+    let l = c .before .before .before .before .before .before in
     let s = l .before .before .before in
-    let e = c .before .above .ensures in
-    near-here (s .args .owners .now) _ _ (l .loop .i) _ _ (c .before .before .before .loop-test .taken) (omega (arith, s .pre)) (l .loop .inv .2) (e .0) (wraps _ _ _ (omega (arith, s .pre)) (e .1)) (c .if1 .taken)
+    let o = s .args .owners .now in
+    let t = c .before .before .before .before .before .loop-test .taken in
+    let a = c .before .before .before .nearer .ensures in
+    let b = c .before .nearer2 .ensures in
+    let n = near-next o _ _ (2 * l .loop .t) _ _ (search needs) (omega (arith, s .pre)) (omega (arith, s .pre)) (l .loop .inv .3) (a .0) (a .1) in
+    let m = near-next o _ _ (2 * l .loop .t + 1) _ _ (search needs) (omega (arith, s .pre)) (omega (arith, s .pre)) n (b .0) (b .1) in
+    near-none o _ _ _ _ m (c .if1 .taken)
 
-add-i : tie.Need-add-i Inv-loop μ-loop
-add-i c = search needs
+add-t : tie.Need-add-t Inv-loop μ-loop
+add-t c = search needs
 
 loop-less : tie.Need-loop-less Inv-loop μ-loop
 loop-less c = search needs
 
 loop-again : tie.Need-loop-again Inv-loop μ-loop
 loop-again c =
-    let l = c .before .before .before .before .before in
+    let l = c .before .before .before .before .before .before in
     let s = l .before .before .before in
-    let e = c .before .before .above .ensures in
-    let t = c .before .before .before .before .loop-test .taken in (
-      search needs,
-      l .loop .inv .1,
-      elim (c .if2 .came) [
-        | inl k ↦ rw (k .1) (near-closer (s .args .owners .now) _ _ (l .loop .i) _ _ t (omega (arith, s .pre)) (l .loop .inv .2) (e .0) (wraps _ _ _ (omega (arith, s .pre)) (e .1)) (k .0 .taken))
-        | inr k ↦ rw (k .1) (near-stay (s .args .owners .now) _ _ (l .loop .i) _ _ t (omega (arith, s .pre)) (l .loop .inv .2) (e .0) (wraps _ _ _ (omega (arith, s .pre)) (e .1)) (k .0 .left))
-      ],
-    )
+    let o = s .args .owners .now in
+    let t = c .before .before .before .before .before .loop-test .taken in
+    let a = c .before .before .before .nearer .ensures in
+    let b = c .before .nearer2 .ensures in
+    let n = near-next o _ _ (2 * l .loop .t) _ _ (search needs) (omega (arith, s .pre)) (omega (arith, s .pre)) (l .loop .inv .3) (a .0) (a .1) in
+    let m = near-next o _ _ (2 * l .loop .t + 1) _ _ (search needs) (omega (arith, s .pre)) (omega (arith, s .pre)) n (b .0) (b .1) in
+    let e : 2 * l .loop .t + 1 + 1 ≡ 2 * (l .loop .t + 1) = omega arith in
+    (search needs, l .loop .inv .1, l .loop .inv .2, rw e at m)
+
+mul-if2 : tie.Need-mul-if2 Inv-loop μ-loop
+mul-if2 c = search needs
+
+mul-nearer-5 : tie.Need-mul-nearer-5 Inv-loop μ-loop
+mul-nearer-5 c = search needs
+
+mul-nearer-6 : tie.Need-mul-nearer-6 Inv-loop μ-loop
+mul-nearer-6 c = search needs
+
+shared-slice-read-nearer-3 : tie.Need-shared-slice-read-nearer-3 Inv-loop μ-loop
+shared-slice-read-nearer-3 c = search needs
+
+nearer-requires-3 : tie.Need-nearer-requires-3 Inv-loop μ-loop
+nearer-requires-3 c κs = search needs
 
 returns-2 : tie.Need-returns-2 Inv-loop μ-loop
-returns-2 c = near-run _ _ _ _ _ (c .loop-test .left) (c .before .loop .inv .2)
+returns-2 c =
+    let l = c .before .before .before .before in
+    let s = l .before .before .before in
+    let o = s .args .owners .now in
+    let a = c .nearer3 .ensures in
+    let t = c .before .before .before .loop-test .left in
+    let q = l .loop .inv in
+    let e : 2 * l .loop .t ≡ 2 * (length o / 2) = search needs in
+    let n = rw e at (l .loop .inv .3) in
+    near-run o _ _ _ _ (search needs)
+    (near-next o _ _ (2 * (length o / 2)) _ _ (search needs) (omega (arith, s .pre)) (omega (arith, s .pre)) n (a .0) (a .1))
+
+returns-3 : tie.Need-returns-3 Inv-loop μ-loop
+returns-3 c =
+    let l = c .before .before in
+    near-run (l .before .before .before .args .owners .now) _ _ (2 * l .loop .t) _ (search needs) (l .loop .inv .3)
 
 pub unmapped-run-spec : {M : Type 1} → statement M
 unmapped-run-spec =
@@ -69,11 +120,23 @@ unmapped-run-spec =
     μ-loop
     add-first
     loop-holds
-    mul-above
-    shared-slice-read-above
-    above-requires
+    mul-nearer
+    mul-nearer-2
+    shared-slice-read-nearer
+    nearer-requires
+    mul-nearer-3
+    add-nearer
+    mul-nearer-4
+    shared-slice-read-nearer-2
+    nearer-requires-2
     returns
-    add-i
+    add-t
     loop-less
     loop-again
-    returns-2)
+    mul-if2
+    mul-nearer-5
+    mul-nearer-6
+    shared-slice-read-nearer-3
+    nearer-requires-3
+    returns-2
+    returns-3)

@@ -53,6 +53,7 @@ fn released(before: Rights, after: Rights) -> bool
     !(after.kind == before.kind)
 }
 
+// What a nexus that stays registered is told where it has.
 fn release_notice(before: Rights, after: Rights, nexus: u64) -> u8
     ensures { λ r. ⌜ r ≡ releaseNotice before after nexus ⌝ }
 {

@@ -11,7 +11,7 @@ use lib.ListN.{length, take, length-take}
 use lib.Seq.{take-all, take-take, length-take-le}
 use borrow.Author.Tests.{leb-true, leb-false}
 use Rattle.answers.specs.declared.Refusal.{Refusal}
-use Rattle.answers.specs.declared.Refusal.the-variants.{NotListed, InvalidField, OutOfRange, ListLength, ListField, NoPlace, OtherType, NoRoom}
+use Rattle.answers.specs.declared.Refusal.the-variants.{NotListed, InvalidField, OutOfRange, ListLength, ListField, NoPlace, OtherType, NoRoom, RegistrationsPreempted, ReservationsPreempted, ReservationsReleased}
 use Rattle.answers.specs.declared.Answer.{Answer}
 use Rattle.answers.specs.declared.Answer.the-variants.{Good, Refused, Conflict, Unusable, Short}
 use Rattle.answers.specs.Answers.{codesOf, numberOf}
@@ -46,7 +46,7 @@ module _ (returned n : ℕ) (l : List ℕ) (e : n ≡ min shownBytes returned) w
 
 -- ---- the answer's number
 
-refusal-most : (x : Refusal) → codesOf x .number ≤ 12
+refusal-most : (x : Refusal) → codesOf x .number ≤ 13
 unfolding codesOf
 refusal-most NotListed = omega arith
 refusal-most (InvalidField at top n) = omega arith
@@ -56,8 +56,11 @@ refusal-most (ListField at top n) = omega arith
 refusal-most NoPlace = omega arith
 refusal-most OtherType = omega arith
 refusal-most (NoRoom address) = omega arith
+refusal-most RegistrationsPreempted = omega arith
+refusal-most ReservationsPreempted = omega arith
+refusal-most ReservationsReleased = omega arith
 
-pub number-most : (a : Answer) → numberOf a ≤ 12
+pub number-most : (a : Answer) → numberOf a ≤ 13
 unfolding numberOf
 number-most Good = omega arith
 number-most (Refused refusal) = refusal-most refusal

@@ -4,7 +4,7 @@ use mathlib.Core.Path.{_≡_, refl, sym, ap, _∙_}
 use mathlib.Core.Bool.{Bool, true, false, not, _||_, cond, false≢true}
 use mathlib.Core.List.{List, [], _∷_}
 use mathlib.Core.Logic.{_≢_}
-use Prim.Native.Nat.{ℕ, zero, suc, _+_, _-_, _^_, _≤_, _<_, min}
+use Prim.Native.Nat.{ℕ, zero, suc, _+_, _*_, _-_, _^_, _≤_, _<_, min}
 use native.Mathlib.Omega.{arith}
 use native.Mathlib.Nat.{add-zero}
 use borrow.Author.Tests.{le-leb, lt-leb, eq-eqb, ne-eqb}
@@ -192,9 +192,13 @@ pub record Nearest (o : List ℕ) (first most i least : ℕ) : Type 0 where
 pub near-start : (o : List ℕ) (first most : ℕ) → Nearest o first most 0 most
 near-start o first most = record { within = omega arith; passed = λ j h l. absurd (omega arith); there = λ h. absurd (omega arith) }
 
--- one slot more, where r is the lesser of `least` and of how far its owner number lies above `first`
+-- r is the lesser of `least` and of how far an owner number lies above `first`, as `nearer` tells it
+abbrev Lesser : ℕ → ℕ → ℕ → ℕ → Type 0
+Lesser owner first least r = (first ≤ owner → r ≡ min (owner - first) least) × (owner < first → r ≡ min (owner + 2 ^ 64 - first) least)
+
+-- one slot more
 module _ (o : List ℕ) (first most i least r : ℕ) (b : i < length o) (low : first ≤ mostBlocks + 1) (small : most ≤ mostBlocks) (n : Nearest o first most i least)
-    (above : first ≤ getD o i 0 → r ≡ min (getD o i 0 - first) least) (below : getD o i 0 < first → r ≡ min (getD o i 0 + 2 ^ 64 - first) least) where
+    (lesser : Lesser (getD o i 0) first least r) where
   stays : r ≡ least → (first ≤ getD o i 0 → first + least ≤ getD o i 0) → Nearest o first most (i + 1) r
   stays e far = rw e record {
     within = n .within;
@@ -215,13 +219,20 @@ module _ (o : List ℕ) (first most i least r : ℕ) (b : i < length o) (low : f
   near-next =
       let w = n .within in
       test (ltb (getD o i 0) first)
-      (λ t. let l = ltb→lt (getD o i 0) first t in let e = below l in stays (omega arith) (λ h. absurd (omega arith)))
+      (λ t. let l = ltb→lt (getD o i 0) first t in let e = lesser .1 l in stays (omega arith) (λ h. absurd (omega arith)))
       (λ t.
       let l = nltb→le (getD o i 0) first t in
-      let e = above l in
+      let e = lesser .0 l in
       test (leb (getD o i 0 - first) least)
       (λ u. let k = leb→le (getD o i 0 - first) least u in comes (omega arith) (omega arith))
       (λ u. let k = nleb→lt (getD o i 0 - first) least u in stays (omega arith) (λ h. omega arith)))
+
+-- the two slots of a turn
+pub near-two : (o : List ℕ) (first most t least r u : ℕ) → 2 * t + 1 < length o → first ≤ mostBlocks + 1 → most ≤ mostBlocks → Nearest o first most (2 * t) least
+    → Lesser (getD o (2 * t) 0) first least r → Lesser (getD o (2 * t + 1) 0) first r u → Nearest o first most (2 * (t + 1)) u
+near-two o first most t least r u b low small n one other =
+    let e : 2 * t + 1 + 1 ≡ 2 * (t + 1) = omega arith in
+    rw e at (near-next o first most (2 * t + 1) r u b low small (near-next o first most (2 * t) least r (omega arith) low small n one) other)
 
 -- the first block is mapped
 pub near-none : (o : List ℕ) (a most i least : ℕ) → Nearest o (a + 1) most i least → least ≡ 0 → 0 ≡ heldFrom false o a most

@@ -5,7 +5,7 @@ use Prim.Native.Nat.{_+_, _*_, _≤_, _-_, _/_}
 use native.Mathlib.Omega.{arith}
 use lib.ListN.{length}
 use borrow.Author.Needs.{needs}
-use Rattle.runs.proofs.RunLaws.{Nearest, near-start, near-next, near-none, near-run}
+use Rattle.runs.proofs.RunLaws.{Nearest, near-start, near-next, near-two, near-none, near-run}
 use Rattle.runs.proofs.search.unmapped_run.Statement.{statement}
 use Rattle.runs.proofs.search.unmapped_run.Tie as tie
 
@@ -52,13 +52,9 @@ returns : tie.Need-returns Inv-loop μ-loop
 returns c =
     let l = c .before .before .before .before .before .before in
     let s = l .before .before .before in
-    let o = s .args .owners .now in
     let t = c .before .before .before .before .before .loop-test .taken in
-    let a = c .before .before .before .nearer .ensures in
-    let b = c .before .nearer2 .ensures in
-    let n = near-next o _ _ (2 * l .loop .t) _ _ (search needs) (omega (arith, s .pre)) (omega (arith, s .pre)) (l .loop .inv .3) (a .0) (a .1) in
-    let m = near-next o _ _ (2 * l .loop .t + 1) _ _ (search needs) (omega (arith, s .pre)) (omega (arith, s .pre)) n (b .0) (b .1) in
-    near-none o _ _ _ _ m (c .if1 .taken)
+    let n = near-two (s .args .owners .now) _ _ (l .loop .t) _ _ _ (search needs) (omega (arith, s .pre)) (omega (arith, s .pre)) (l .loop .inv .3) (c .before .before .before .nearer .ensures) (c .before .nearer2 .ensures) in
+    near-none (s .args .owners .now) _ _ _ _ n (c .if1 .taken)
 
 add-t : tie.Need-add-t Inv-loop μ-loop
 add-t c = search needs
@@ -70,14 +66,9 @@ loop-again : tie.Need-loop-again Inv-loop μ-loop
 loop-again c =
     let l = c .before .before .before .before .before .before in
     let s = l .before .before .before in
-    let o = s .args .owners .now in
     let t = c .before .before .before .before .before .loop-test .taken in
-    let a = c .before .before .before .nearer .ensures in
-    let b = c .before .nearer2 .ensures in
-    let n = near-next o _ _ (2 * l .loop .t) _ _ (search needs) (omega (arith, s .pre)) (omega (arith, s .pre)) (l .loop .inv .3) (a .0) (a .1) in
-    let m = near-next o _ _ (2 * l .loop .t + 1) _ _ (search needs) (omega (arith, s .pre)) (omega (arith, s .pre)) n (b .0) (b .1) in
-    let e : 2 * l .loop .t + 1 + 1 ≡ 2 * (l .loop .t + 1) = omega arith in
-    (search needs, l .loop .inv .1, l .loop .inv .2, rw e at m)
+    let n = near-two (s .args .owners .now) _ _ (l .loop .t) _ _ _ (search needs) (omega (arith, s .pre)) (omega (arith, s .pre)) (l .loop .inv .3) (c .before .before .before .nearer .ensures) (c .before .nearer2 .ensures) in
+    (search needs, l .loop .inv .1, l .loop .inv .2, n)
 
 mul-if2 : tie.Need-mul-if2 Inv-loop μ-loop
 mul-if2 c = search needs
@@ -99,13 +90,12 @@ returns-2 c =
     let l = c .before .before .before .before in
     let s = l .before .before .before in
     let o = s .args .owners .now in
-    let a = c .nearer3 .ensures in
     let t = c .before .before .before .loop-test .left in
     let q = l .loop .inv in
     let e : 2 * l .loop .t ≡ 2 * (length o / 2) = search needs in
     let n = rw e at (l .loop .inv .3) in
     near-run o _ _ _ _ (search needs)
-    (near-next o _ _ (2 * (length o / 2)) _ _ (search needs) (omega (arith, s .pre)) (omega (arith, s .pre)) n (a .0) (a .1))
+    (near-next o _ _ (2 * (length o / 2)) _ _ (search needs) (omega (arith, s .pre)) (omega (arith, s .pre)) n (c .nearer3 .ensures))
 
 returns-3 : tie.Need-returns-3 Inv-loop μ-loop
 returns-3 c =

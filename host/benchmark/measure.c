@@ -8,9 +8,9 @@
      measure execute NUMBER CALLS  restores it and executes, CALLS times
      measure timing NUMBER CALLS   prints nanoseconds per call
 
-   An operation may change the store, so every program copies record and owners
-   back before each call; `restore` does that alone, and the difference of the
-   two runs is the cost of the calls. Nothing else is cleared or restored: the
+   An operation may change the store, so every program copies record, owners and
+   marks back before each call; `restore` does that alone, and the difference of
+   the two runs is the cost of the calls. Nothing else is cleared or restored: the
    medium, data-in and sense keep what earlier calls left. */
 #define _POSIX_C_SOURCE 199309L
 #include <stdio.h>
@@ -41,16 +41,18 @@ enum sends {
    FALLING: the same from the last slot down, which is the dearest order for a
    search of the next block. RANDOM: any below 2^40. CHOSEN: of those whose owner
    numbers share a bucket of the check, the ith. TWICE: as SCATTERED, but the
-   last slot holds the block of the one before. */
-enum layout { SCATTERED, APART, EVERY, FALLING, RANDOM, CHOSEN, TWICE };
+   last slot holds the block of the one before. ASTRAY: as SCATTERED, but the last
+   slot has an owner and no mark. */
+enum layout { SCATTERED, APART, EVERY, FALLING, RANDOM, CHOSEN, TWICE, ASTRAY };
 
 /* One row of the table. Place i is nexus i with key 10h + i, or 10h in all places
    but the sender's where one_key says so. The sense is fixed where the row does
    not say that it is in descriptor format. Nothing waits for a nexus but for the
-   sender, where the row says what. */
+   sender, where the row says what. A row that asks for the room sends no
+   command. */
 struct operation {
     const char *title;
-    int descriptor_sense, one_key;
+    int descriptor_sense, one_key, asks_room;
     uint8_t waiting; /* for the sender, enum ridge_attention */
     size_t slots, full, places, moved;
     enum layout layout;
@@ -107,6 +109,8 @@ static const struct operation operations[] = {
     {"TEST UNIT READY, 128 blocks of one bucket", FAR(CHOSEN, 0)},
     {"TEST UNIT READY, 128 full slots, the last two alike (11)",
      FAR(TWICE, 0), .answer = RIDGE_UNUSABLE},
+    {"TEST UNIT READY, 128 full slots, a mark beside its owner (11)",
+     FAR(ASTRAY, 0), .answer = RIDGE_UNUSABLE},
     {"TEST UNIT READY, told of an attention (13), fixed sense, 1 full slot",
      .slots = 1, .full = 1, TOLD},
     {"TEST UNIT READY, told of an attention (13), fixed sense, 128 full slots",
@@ -115,6 +119,9 @@ static const struct operation operations[] = {
      .descriptor_sense = 1, .slots = 1, .full = 1, TOLD},
     {"TEST UNIT READY, told of an attention (13), descriptor sense, 128 full slots",
      .descriptor_sense = 1, FULL, TOLD},
+    {"room told, 1 full slot", .slots = 1, .full = 1, .asks_room = 1},
+    {"room told, 128 full slots", FULL, .asks_room = 1},
+    {"room told, 128 free slots", .slots = 128, .asks_room = 1},
     {"INQUIRY", FULL, .moved = 36, .cdb_bytes = 6, .cdb = {0x12, 0, 0, 0, 36}},
     {"INQUIRY, page 00h", FULL, .moved = 7, PAGE(0x00)},
     {"INQUIRY, page B0h, the limits", FULL, .moved = 64, PAGE(0xB0)},
@@ -148,6 +155,9 @@ static const struct operation operations[] = {
     {"WRITE(10), 1 block, mapped", FULL, .moved = 512, .sends = BLOCKS,
      .cdb_bytes = 10, .cdb = {0x2A, [5] = 5, [8] = 1}},
     {"WRITE(10), 1 block, new, 127 full slots", .slots = 128, .full = 127,
+     .moved = 512, .sends = BLOCKS, .cdb_bytes = 10,
+     .cdb = {0x2A, [4] = 2, [8] = 1}},
+    {"WRITE(10), 1 block, new, 63 full of 64 slots", .slots = 64, .full = 63,
      .moved = 512, .sends = BLOCKS, .cdb_bytes = 10,
      .cdb = {0x2A, [4] = 2, [8] = 1}},
     {"WRITE(10), 128 blocks, mapped", FULL, .moved = TRANSFER_BYTES,
@@ -251,11 +261,12 @@ static const struct operation *operation;
 static uint64_t format;
 static _Alignas(64) struct ridge_unit unit, saved_unit;
 static _Alignas(64) uint64_t owners[RIDGE_SLOTS], saved_owners[RIDGE_SLOTS];
+static _Alignas(64) struct ridge_marks marks, saved_marks;
 static _Alignas(64) uint8_t medium[TRANSFER_BYTES];
 static _Alignas(64) uint8_t data_out[TRANSFER_BYTES];
 static _Alignas(64) uint8_t data_in[TRANSFER_BYTES];
 static size_t data_out_bytes;
-static uint64_t answer;
+static uint64_t answer, free_slots, lowest_free;
 
 static void store(uint8_t *at, size_t bytes, uint64_t number)
 {
@@ -310,6 +321,15 @@ static void prepare_owners(void)
         saved_owners[operation->full - 1] = saved_owners[operation->full - 2];
 }
 
+static void prepare_marks(void)
+{
+    for (size_t slot = 0; slot < operation->full; slot++)
+        saved_marks.words[slot / RIDGE_WORD_SLOTS] |=
+            UINT64_C(1) << slot % RIDGE_WORD_SLOTS;
+    if (operation->layout == ASTRAY)
+        saved_marks.words[RIDGE_MARK_WORDS - 1] ^= UINT64_C(1) << 63;
+}
+
 static void prepare_store(void)
 {
     struct ridge_rights *rights = &saved_unit.rights;
@@ -325,6 +345,7 @@ static void prepare_store(void)
     }
     saved_unit.attentions[operation->nexus] = operation->waiting;
     prepare_owners();
+    prepare_marks();
     for (size_t i = 0; i < sizeof medium; i++)
         medium[i] = (uint8_t)(i * 7 + i / 512);
 }
@@ -397,6 +418,7 @@ static void restore(void)
 {
     memcpy(&unit, &saved_unit, sizeof unit);
     memcpy(owners, saved_owners, sizeof owners);
+    memcpy(&marks, &saved_marks, sizeof marks);
 }
 
 static void call_nothing(void)
@@ -415,18 +437,42 @@ static void call(void)
         copy(medium, data_out, operation->moved);
     answer = operation->answer;
 }
+
+/* It moves no bytes. */
+static void call_room(void)
+{
+    answer = operation->answer;
+    free_slots = operation->slots - operation->full;
+    lowest_free = operation->full;
+}
 #else
 static void call(void)
 {
     static uint8_t sense[RIDGE_DESCRIPTOR_SENSE_BYTES];
     uint64_t returned;
     answer = ridge_execute(
-        format, &unit, owners, operation->slots, medium,
+        format, &unit, owners, operation->slots, &marks, medium,
         operation->slots * RIDGE_BLOCK_BYTES, operation->nexus, operation->cdb,
         operation->cdb_bytes, data_out, data_out_bytes, data_in, sizeof data_in,
         sense, sizeof sense, &returned);
 }
+
+static void call_room(void)
+{
+    answer = ridge_room(format, &unit, owners, operation->slots, &marks, medium,
+                        operation->slots * RIDGE_BLOCK_BYTES, &free_slots,
+                        &lowest_free);
+}
 #endif
+
+/* The full slots are the lowest ones. */
+static int is_right(void)
+{
+    return answer == operation->answer &&
+           (!operation->asks_room ||
+            (free_slots == operation->slots - operation->full &&
+             lowest_free == operation->full));
+}
 
 /* The pointer is volatile so that neither loop is optimised for its call. */
 static void repeat(void (*action)(void), unsigned long calls)
@@ -460,6 +506,17 @@ static int list(void)
     return 0;
 }
 
+static void run(const char *mode, void (*action)(void), unsigned long calls)
+{
+    if (strcmp(mode, "restore") == 0)
+        repeat(call_nothing, calls);
+    else if (strcmp(mode, "execute") == 0)
+        repeat(action, calls);
+    else
+        printf("%.1f\n", (least_nanoseconds(action, calls) -
+                          least_nanoseconds(call_nothing, calls)) / (double)calls);
+}
+
 int main(int count, char **arguments)
 {
     if (count == 2 && strcmp(arguments[1], "list") == 0)
@@ -467,20 +524,15 @@ int main(int count, char **arguments)
     size_t number = count == 4 ? strtoul(arguments[2], NULL, 10) : OPERATIONS;
     if (number >= OPERATIONS)
         return 2;
-    unsigned long calls = strtoul(arguments[3], NULL, 10);
     operation = &operations[number];
+    void (*action)(void) = operation->asks_room ? call_room : call;
     prepare();
-    repeat(call, 1); /* both kinds of run make it, so its cost cancels */
-    if (answer != operation->answer) {
-        fprintf(stderr, "%s: answer %d\n", operation->title, (int)answer);
+    repeat(action, 1); /* both kinds of run make it, so its cost cancels */
+    if (!is_right()) {
+        fprintf(stderr, "%s: answer %d, or another room\n", operation->title,
+                (int)answer);
         return 1;
     }
-    if (strcmp(arguments[1], "restore") == 0)
-        repeat(call_nothing, calls);
-    else if (strcmp(arguments[1], "execute") == 0)
-        repeat(call, calls);
-    else
-        printf("%.1f\n", (least_nanoseconds(call, calls) -
-                          least_nanoseconds(call_nothing, calls)) / (double)calls);
+    run(arguments[1], action, strtoul(arguments[3], NULL, 10));
     return 0;
 }

@@ -59,6 +59,7 @@ static const char *const column_names[COLUMNS][2] = {
 static struct store {
     struct ridge_unit unit;
     uint64_t owners[SLOTS];
+    struct ridge_marks marks;
     uint8_t medium[SLOTS * RIDGE_BLOCK_BYTES];
     uint8_t data_in[DATA_ROOM];
     uint8_t sense[SENSE_ROOM];
@@ -93,10 +94,10 @@ static uint64_t execute(uint64_t nexus, const uint8_t *cdb, size_t cdb_bytes,
 {
     calls++;
     return ridge_execute(RIDGE_FIXED, &store.unit, store.owners, SLOTS,
-                         store.medium, sizeof store.medium, nexus, cdb,
-                         cdb_bytes, data_out, data_out_bytes, store.data_in,
-                         data_in_bytes, store.sense, sizeof store.sense,
-                         &returned);
+                         &store.marks, store.medium, sizeof store.medium,
+                         nexus, cdb, cdb_bytes, data_out, data_out_bytes,
+                         store.data_in, data_in_bytes, store.sense,
+                         sizeof store.sense, &returned);
 }
 
 static void put(uint8_t *at, size_t bytes, uint64_t number)
@@ -139,7 +140,7 @@ static void set_scene(void)
     memset(&store, FILL, sizeof store);
     memset(blocks, 0x5A, sizeof blocks);
     uint64_t answers = ridge_fresh(CAPACITY, RIDGE_FIXED, &store.unit,
-                                   store.owners, SLOTS);
+                                   store.owners, SLOTS, &store.marks);
     answers += execute(scene->nexuses[OUTSIDER], cdb, sizeof cdb, blocks,
                        sizeof blocks, DATA_ROOM);
     if (scene->registrations) {
@@ -250,6 +251,8 @@ static void want_nothing_changed(uint64_t answer)
         fault("and the record changed", answer);
     if (memcmp(store.owners, before.owners, sizeof store.owners) != 0)
         fault("and the owners changed", answer);
+    if (memcmp(&store.marks, &before.marks, sizeof store.marks) != 0)
+        fault("and the marks changed", answer);
     if (memcmp(store.medium, before.medium, sizeof store.medium) != 0)
         fault("and the medium changed", answer);
     if (memcmp(store.data_in, before.data_in, sizeof store.data_in) != 0 ||

@@ -5,18 +5,7 @@
 
 #include "attentions.h"
 
-#include <stdio.h>
-#include <string.h>
-
 /* ---- The tables ---- */
-
-enum { AXES = 3, LABELS = 20 };
-
-/* What the rows or columns of a table are told apart by. */
-struct axis {
-    size_t count;
-    const char *labels[LABELS];
-};
 
 enum axis_number {
     ALONE, /* of a table that has fewer axes */
@@ -156,10 +145,7 @@ enum table_number {
 _Static_assert((int)TABLES == (int)ATTENTION_TABLES,
                "attentions.h has as many");
 
-static const struct {
-    const char *name;
-    enum axis_number axes[AXES];
-} tables[TABLES] = {
+static const struct table tables[TABLES] = {
     [TOLD_IN_FORMAT] = {"told in a format", {CODES, FORMATS}},
     [TOLD_BY_COMMAND] = {"told by a command", {COMMANDS}},
     [TOLD_TO_NEXUS] = {"told to a nexus", {CODES, NEXUSES}},
@@ -201,52 +187,14 @@ static const struct {
     [SENT_BESIDE] = {"sent while for a stranger waits", {CODES, CODES}},
 };
 
-const char *attention_table(size_t table)
-{
-    return tables[table].name;
-}
-
-size_t attention_cells(size_t table)
-{
-    size_t cells = 1;
-
-    for (size_t axis = 0; axis < AXES; axis++)
-        cells *= axes[tables[table].axes[axis]].count;
-    return cells;
-}
-
-/* The last axis counts fastest. */
-static size_t cell_of_table(size_t table, const size_t at[AXES])
-{
-    size_t cell = 0;
-
-    for (size_t axis = 0; axis < AXES; axis++)
-        cell = cell * axes[tables[table].axes[axis]].count + at[axis];
-    return cell;
-}
-
-void attention_cell_name(size_t table, size_t cell,
-                         char name[ATTENTION_NAME_ROOM])
-{
-    const char *labels[AXES];
-
-    for (size_t axis = AXES; axis > 0; axis--) {
-        const struct axis *labelled = &axes[tables[table].axes[axis - 1]];
-
-        labels[axis - 1] = labelled->labels[cell % labelled->count];
-        cell /= labelled->count;
-    }
-    snprintf(name, ATTENTION_NAME_ROOM, "attention %s, %s%s%s%s%s",
-             tables[table].name, labels[0], *labels[1] == '\0' ? "" : ", ",
-             labels[1], *labels[2] == '\0' ? "" : ", ", labels[2]);
-}
+const struct tables attention_tables = {"attention", axes, tables};
 
 static void count(struct attention_counts *counts, enum table_number table,
                   size_t first, size_t second, size_t third)
 {
-    const size_t at[AXES] = {first, second, third};
+    const size_t at[TABLE_AXES] = {first, second, third};
 
-    counts->of[table][cell_of_table(table, at)]++;
+    counts->of[table][table_cell(&attention_tables, table, at)]++;
 }
 
 /* ---- A call ---- */

@@ -4,16 +4,17 @@
  * place of the order; each call that leaves one waiting; each action that lets
  * others know of it under each type, to one, to several or to nobody, whatever
  * waits for them already; and the numbers that are no attention.
- *
- * Occasions stand in tables, and each cell of a table is one.
  */
 
 #ifndef ATTENTIONS_H
 #define ATTENTIONS_H
 
 #include "occasions.h"
+#include "tables.h"
 
-enum { ATTENTION_TABLES = 30, ATTENTION_CELLS = 64, ATTENTION_NAME_ROOM = 128 };
+enum { ATTENTION_TABLES = 30, ATTENTION_CELLS = 64 };
+
+extern const struct tables attention_tables;
 
 struct attention_counts {
     uint64_t of[ATTENTION_TABLES][ATTENTION_CELLS];
@@ -30,11 +31,5 @@ bool attention_is_due(const struct occasion *call);
 /* Counts what the call came to. */
 void attentions_count(const struct occasion *call,
                       struct attention_counts *counts);
-
-/* The tables by name, their cells by number and by name. */
-const char *attention_table(size_t table);
-size_t attention_cells(size_t table);
-void attention_cell_name(size_t table, size_t cell,
-                         char name[ATTENTION_NAME_ROOM]);
 
 #endif

@@ -85,7 +85,8 @@ void console_tell(struct progress *progress, uint64_t done)
 }
 
 void console_store(uint64_t format, const struct ridge_unit *unit,
-                   const uint64_t *owners, size_t slots)
+                   const uint64_t *owners, size_t slots,
+                   const struct ridge_marks *marks)
 {
     const struct ridge_rights *rights = &unit->rights;
 
@@ -102,5 +103,6 @@ void console_store(uint64_t format, const struct ridge_unit *unit,
     printf("\n  owners of %zu slots", slots);
     for (size_t slot = 0; slot < slots; slot++)
         printf(" %" PRIX64, owners[slot]);
-    printf("\n");
+    printf("\n  marks %016" PRIX64 " %016" PRIX64 "\n", marks->words[0],
+           marks->words[1]);
 }

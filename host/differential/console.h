@@ -37,8 +37,10 @@ struct progress console_progress(const char *program, const char *unit,
 /* Says on standard error how far the run is, once in a few seconds. */
 void console_tell(struct progress *progress, uint64_t done);
 
-/* Prints a store's format, record and owners, numbers in hex. */
+/* Prints a store's format, record, owners and marks, numbers in hex; of the
+   marks the first word first, its highest bit on the left. */
 void console_store(uint64_t format, const struct ridge_unit *unit,
-                   const uint64_t *owners, size_t slots);
+                   const uint64_t *owners, size_t slots,
+                   const struct ridge_marks *marks);
 
 #endif

@@ -60,6 +60,12 @@ static size_t any_slot(struct random *random, const struct lent *lent)
     return lent->slots - 1 - before_last;
 }
 
+/* The marks follow the owners, so that these alone are wrong. */
+static void mark_owners(const struct lent *lent)
+{
+    *lent->marks = marks_due(lent->owners, lent->slots);
+}
+
 static bool owner_above_capacity(struct random *random,
                                  const struct lent *lent)
 {
@@ -68,6 +74,7 @@ static bool owner_above_capacity(struct random *random,
 
     lent->owners[slot] = RANDOM_CHOICE(random, capacity + 1, UINT64_MAX,
                                        (UINT64_C(1) << 32) + capacity);
+    mark_owners(lent);
     return true;
 }
 
@@ -88,7 +95,206 @@ static bool two_slots_of_a_block(struct random *random,
     if (lent->owners[slot] == 0)
         lent->owners[slot] = lent->unit->capacity;
     lent->owners[other] = lent->owners[slot];
+    mark_owners(lent);
     return true;
+}
+
+/* ---- The marks ---- */
+
+enum { MARKS = RIDGE_MARK_WORDS * RIDGE_WORD_SLOTS };
+
+static bool is_marked(const struct lent *lent, size_t bit)
+{
+    return (lent->marks->words[bit / 64] >> bit % 64 & 1) != 0;
+}
+
+static void flip_mark(const struct lent *lent, size_t bit)
+{
+    lent->marks->words[bit / 64] ^= UINT64_C(1) << bit % 64;
+}
+
+/* Puts these words, if they are others than those that are right. */
+static bool put_marks(const struct lent *lent, uint64_t first, uint64_t second)
+{
+    const struct ridge_marks marks = {{first, second}};
+
+    if (same_marks(&marks, lent->marks))
+        return false;
+    *lent->marks = marks;
+    return true;
+}
+
+/* The next slot from one at an end, or from any, that is marked, or is not;
+   the number of slots if none is. */
+static size_t slot_so_marked(struct random *random, const struct lent *lent,
+                             bool marked)
+{
+    size_t any = (size_t)random_below(random, lent->slots);
+    size_t last = lent->slots - 1;
+    size_t first = (size_t)RANDOM_CHOICE(random, any, any, 0, 63, 64, 63, 64,
+                                         last, last, last);
+
+    for (size_t step = 0; step < lent->slots; step++) {
+        size_t slot = (first + step) % lent->slots;
+
+        if (is_marked(lent, slot) == marked)
+            return slot;
+    }
+    return lent->slots;
+}
+
+static bool flip_mark_of(struct random *random, const struct lent *lent,
+                         bool marked)
+{
+    size_t slot = slot_so_marked(random, lent, marked);
+
+    if (slot == lent->slots)
+        return false;
+    flip_mark(lent, slot);
+    return true;
+}
+
+static bool mark_without_owner(struct random *random, const struct lent *lent)
+{
+    return flip_mark_of(random, lent, false);
+}
+
+static bool owner_without_mark(struct random *random, const struct lent *lent)
+{
+    return flip_mark_of(random, lent, true);
+}
+
+/* The next bit, the last one of either word, the first one of the second, or
+   any; in the second word more often than that has bits. */
+static bool mark_beyond(struct random *random, const struct lent *lent)
+{
+    size_t slots = lent->slots;
+    uint64_t second = slots < 64 ? 64 : slots;
+    uint64_t any, behind;
+
+    if (slots == MARKS)
+        return false;
+    any = slots + random_below(random, MARKS - slots);
+    behind = second + random_below(random, MARKS - second);
+    flip_mark(lent, (size_t)RANDOM_CHOICE(random, slots, slots, any, behind,
+                                          second, MARKS - 1, MARKS - 1,
+                                          slots < 64 ? 63 : slots));
+    return true;
+}
+
+/* The bit before or behind is marked for a slot that is used, often over the
+   end of a word; it may be one that the pool has no slot for. */
+static bool mark_of_neighbour(struct random *random, const struct lent *lent)
+{
+    bool up = random_percent(random, 50);
+    size_t first = random_percent(random, 75)
+                       ? (up ? 63 : 64)
+                       : slot_so_marked(random, lent, true);
+
+    for (size_t step = 0; step < lent->slots; step++) {
+        size_t slot = (first + step) % lent->slots;
+        size_t other = up ? slot + 1 : slot - 1;
+
+        if (!is_marked(lent, slot) || other >= MARKS || is_marked(lent, other))
+            continue;
+        flip_mark(lent, slot);
+        flip_mark(lent, other);
+        return true;
+    }
+    return false;
+}
+
+static bool words_swapped(struct random *random, const struct lent *lent)
+{
+    (void)random;
+    return put_marks(lent, lent->marks->words[1], lent->marks->words[0]);
+}
+
+static bool word_empty(struct random *random, const struct lent *lent)
+{
+    uint64_t kept = random_below(random, 3);
+
+    return put_marks(lent, kept == 1 ? lent->marks->words[0] : 0,
+                     kept == 2 ? lent->marks->words[1] : 0);
+}
+
+/* Both words alike: what is right for one of them, or a word beyond the slots
+   where the pool has no more than 64. */
+static bool words_alike(struct random *random, const struct lent *lent)
+{
+    uint64_t word = lent->marks->words[random_below(random, 2)];
+
+    return put_marks(lent, word, word);
+}
+
+/* Of all bits, or of those that the pool has slots for. */
+static bool all_marked(struct random *random, const struct lent *lent)
+{
+    uint64_t used[RIDGE_SLOTS];
+    struct ridge_marks marks;
+
+    for (size_t slot = 0; slot < lent->slots; slot++)
+        used[slot] = 1;
+    marks = marks_due(used, lent->slots);
+    if (random_percent(random, 50))
+        return put_marks(lent, UINT64_MAX, UINT64_MAX);
+    return put_marks(lent, marks.words[0], marks.words[1]);
+}
+
+/* Free slots for used ones, within the pool or in all bits. */
+static bool marks_turned(struct random *random, const struct lent *lent)
+{
+    uint64_t free[RIDGE_SLOTS];
+    struct ridge_marks marks;
+
+    for (size_t slot = 0; slot < lent->slots; slot++)
+        free[slot] = lent->owners[slot] == 0 ? 1 : 0;
+    marks = marks_due(free, lent->slots);
+    if (random_percent(random, 30))
+        return put_marks(lent, ~lent->marks->words[0], ~lent->marks->words[1]);
+    return put_marks(lent, marks.words[0], marks.words[1]);
+}
+
+/* Slots counted from 1, in both words or in each. */
+static bool marks_from_1(struct random *random, const struct lent *lent)
+{
+    const uint64_t *words = lent->marks->words;
+    uint64_t over = random_percent(random, 50) ? words[0] >> 63 : 0;
+
+    return put_marks(lent, words[0] << 1, words[1] << 1 | over);
+}
+
+static uint64_t turned(uint64_t word)
+{
+    uint64_t other = 0;
+
+    for (size_t bit = 0; bit < 64; bit++)
+        other |= (word >> bit & 1) << (63 - bit);
+    return other;
+}
+
+/* Slot 0 in the top bit. */
+static bool marks_from_the_top(struct random *random, const struct lent *lent)
+{
+    (void)random;
+    return put_marks(lent, turned(lent->marks->words[0]),
+                     turned(lent->marks->words[1]));
+}
+
+static bool another_mark(struct random *random, const struct lent *lent)
+{
+    flip_mark(lent, (size_t)random_below(random, MARKS));
+    return true;
+}
+
+static bool any_marks(struct random *random, const struct lent *lent)
+{
+    uint64_t first = random_word(random);
+    uint64_t second = random_word(random);
+    uint64_t kind = random_below(random, 3);
+
+    return put_marks(lent, kind == 0 ? lent->marks->words[0] : first,
+                     kind == 1 ? lent->marks->words[1] : second);
 }
 
 /* ---- Capacity and generation ---- */
@@ -287,8 +493,9 @@ static bool any_bytes(struct random *random, const struct lent *lent)
 
 /* ---- All ways ---- */
 
-/* The first ways are those of the map. */
-enum { MAP_WAYS = 2, ATTENTION_WAY = 15 };
+/* The first ways are those of the map, those of the marks the last; the first
+   of these are of one bit, and then comes the neighbour's. */
+enum { MAP_WAYS = 2, ATTENTION_WAY = 15, MARK_WAY = 19, NEIGHBOUR_WAY = 22 };
 
 static const struct way {
     const char *name;
@@ -314,17 +521,43 @@ static const struct way {
     {"another attention", false, another_attention},
     {"another bit of the record", false, another_bit},
     {"any bytes for a record", false, any_bytes},
+    [MARK_WAY] = {"a mark without its owner", true, mark_without_owner},
+    {"an owner without its mark", true, owner_without_mark},
+    {"a mark beyond the slots", true, mark_beyond},
+    [NEIGHBOUR_WAY] = {"the mark of a neighbour", true, mark_of_neighbour},
+    {"the words of marks swapped", true, words_swapped},
+    {"a word of marks empty", true, word_empty},
+    {"both words of marks alike", true, words_alike},
+    {"all marked", true, all_marked},
+    {"marks of the free slots", true, marks_turned},
+    {"marks counted from 1", true, marks_from_1},
+    {"marks counted from the top", true, marks_from_the_top},
+    {"another bit of the marks", true, another_mark},
+    {"any marks", true, any_marks},
 };
 
-/* The map of a large store has most that can be wrong; and there are 16
-   attentions, each of which may be overlooked. */
+static size_t way_from(struct random *random, size_t first, size_t end)
+{
+    return first + (size_t)random_below(random, end - first);
+}
+
+/* The map of a large store has most that can be wrong; there are 16 attentions,
+   each of which may be overlooked, and 128 marks. */
 static size_t choose_way(struct random *random, const struct lent *lent)
 {
-    if (lent->slots >= LARGE_SLOTS && random_percent(random, 50))
-        return (size_t)random_below(random, MAP_WAYS);
-    if (random_percent(random, 20))
+    uint64_t kind = random_below(random, 100);
+
+    if (lent->slots >= LARGE_SLOTS && kind < 35)
+        return way_from(random, 0, MAP_WAYS);
+    if (kind < 16)
         return ATTENTION_WAY;
-    return (size_t)random_below(random, DAMAGE_WAYS);
+    if (kind >= 92)
+        return NEIGHBOUR_WAY;
+    if (kind >= 75)
+        return way_from(random, MARK_WAY, NEIGHBOUR_WAY);
+    if (kind >= 60)
+        return way_from(random, MARK_WAY, DAMAGE_WAYS);
+    return way_from(random, 0, MARK_WAY);
 }
 
 size_t damage_store(struct random *random, const struct lent *lent)

@@ -1,7 +1,7 @@
 /*
- * damage.h - stores with one thing wrong: a field of the record, or an owner,
- * while all else is as in a valid store. A library that leaves out a test, or
- * looks at fewer bits of a field than it has, then answers otherwise.
+ * damage.h - stores with one thing wrong: a field of the record, an owner or
+ * the marks, while all else is as in a valid store. A library that leaves out a
+ * test, or looks at fewer bits of a field than it has, then answers otherwise.
  */
 
 #ifndef DAMAGE_H
@@ -9,13 +9,14 @@
 
 #include "generate.h"
 
-enum { DAMAGE_WAYS = 19 };
+enum { DAMAGE_WAYS = 32 };
 
 /* A store that is lent: what damage may change of it. */
 struct lent {
     struct ridge_unit *unit;
     uint64_t *owners;
     size_t slots;
+    struct ridge_marks *marks;
 };
 
 /* Does one thing to a valid store; returns the way that was taken, a number

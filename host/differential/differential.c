@@ -32,9 +32,16 @@
  * for each nexus what was there before, or what it has to know by what the call
  * did to registrations and reservation.
  *
+ * After most calls both are asked for the room of the store as it is then, be
+ * it valid or not. What Q-7 says holds: marks that are not those of the owners
+ * make every call unusable; a call that was usable leaves the marks that its
+ * owners have; room is what a walk over the owners tells, is told of every
+ * valid store, whatever the call was, and of no other, and nothing is written
+ * where it is not told.
+ *
  * Exit status: 0 no difference and every answer met often enough; 1 a
  * difference, which is printed; 2 an answer, command, take-over, cell of the
- * conflict rule, occasion of Q-1, Q-2, Q-4, Q-6 or Q-8 or damage too rare
+ * conflict rule, occasion of Q-1, Q-2, Q-4, Q-6, Q-7 or Q-8 or damage too rare
  * (asked of long runs alone), bad usage.
  */
 
@@ -49,25 +56,43 @@
 #include "console.h"
 #include "damage.h"
 #include "generate.h"
+#include "marks.h"
 #include "occasions.h"
 #include "sense.h"
 
 enum {
     CALLS_DEFAULT = 200000,
-    CALLS_LONG = 100000, /* from here on every answer must be met often */
+    CALLS_LONG = 200000, /* from here on every answer must be met often */
     GUARD = 64,         /* bytes before and after each buffer */
     EXTRA_SLOTS = 2,    /* so that 129 slots can be lent */
     ROOM_SLOTS = RIDGE_SLOTS + EXTRA_SLOTS,
     ROWS = 14,          /* commands that are counted apart */
-    NOTICES = 11,       /* of 100 calls, those that others must know of, */
-    ATTENDED = 7,       /* and those of one for whom something waits */
-    RENEWED = 6         /* of 100 calls, those before which others register */
+    NOTICES = 13,       /* of 100 calls, those that others must know of, */
+    ATTENDED = 7,       /* those of one for whom something waits */
+    ROOMS = 8,          /* and those that take or free slots at an end */
+    RENEWED = 6,        /* of 100 calls, those before which others register */
+    FAULTY = 30,        /* of 100 on damaged stores, those with a fault too */
+    ASKED = 45          /* of 100 on many slots, those before room is asked */
 };
 
-enum part { UNIT, OWNERS, MEDIUM, CDB, DATA_OUT, DATA_IN, SENSE, PARTS };
+/* The first four are the store; the last two are what room tells. */
+enum part {
+    UNIT,
+    OWNERS,
+    MARKS,
+    MEDIUM,
+    CDB,
+    DATA_OUT,
+    DATA_IN,
+    SENSE,
+    FREE_SLOTS,
+    LOWEST_FREE,
+    PARTS
+};
 
 static const char *const part_names[PARTS] = {
-    "unit", "owners", "medium", "cdb", "data-out", "data-in", "sense"};
+    "unit",     "owners",  "marks", "medium",     "cdb",
+    "data-out", "data-in", "sense", "free slots", "lowest free"};
 
 /* All that is lent to one library, with guards before and after each part, and
    what it answered. */
@@ -76,6 +101,8 @@ struct world {
     struct ridge_unit unit;
     uint8_t guard_of_owners[2 * GUARD];
     uint64_t owners[ROOM_SLOTS];
+    uint8_t guard_of_marks[2 * GUARD];
+    struct ridge_marks marks;
     uint8_t guard_of_medium[2 * GUARD];
     uint8_t medium[ROOM_SLOTS * RIDGE_BLOCK_BYTES];
     uint8_t guard_of_cdb[2 * GUARD];
@@ -86,26 +113,35 @@ struct world {
     uint8_t data_in[DATA_ROOM];
     uint8_t guard_of_sense[2 * GUARD];
     uint8_t sense[SENSE_ROOM];
+    uint8_t guard_of_free_slots[2 * GUARD];
+    uint64_t free_slots;
+    uint8_t guard_of_lowest_free[2 * GUARD];
+    uint64_t lowest_free;
     uint8_t guard_of_end[GUARD];
     uint64_t answer;
     uint64_t returned;
+    uint64_t room; /* its answer, if it was asked for */
 };
 
 static const size_t part_offsets[PARTS] = {
-    offsetof(struct world, unit),     offsetof(struct world, owners),
-    offsetof(struct world, medium),   offsetof(struct world, cdb),
-    offsetof(struct world, data_out), offsetof(struct world, data_in),
-    offsetof(struct world, sense)};
+    offsetof(struct world, unit),       offsetof(struct world, owners),
+    offsetof(struct world, marks),      offsetof(struct world, medium),
+    offsetof(struct world, cdb),        offsetof(struct world, data_out),
+    offsetof(struct world, data_in),    offsetof(struct world, sense),
+    offsetof(struct world, free_slots), offsetof(struct world, lowest_free)};
 
 /* What one call lends: bytes of each part, the format that it is told, and who
-   sends it. The store is whole if nothing was spoiled; 11 is due if the call is
-   known to be unusable, or the state to be invalid, by how it was made. */
+   sends it. The store is whole if nothing was spoiled; it is bad if its format,
+   a size or the state is known to be wrong by how it was made; 11 is due if it
+   is bad, or the call is known to be unusable. Room may be asked for then. */
 struct lending {
     size_t bytes[PARTS];
     uint64_t format;
     uint64_t nexus;
     bool whole;
+    bool bad;
     bool due_11;
+    bool asked;
 };
 
 struct figures {
@@ -126,6 +162,7 @@ struct figures {
     uint64_t cells[CELLS]; /* calls that tell what the cell says */
     uint64_t occasions[OCCASIONS];
     struct attention_counts attentions;
+    struct mark_counts marks;
 };
 
 struct run {
@@ -137,7 +174,8 @@ struct run {
     struct world before;
     struct world ridge;
     struct world second;
-    struct world without; /* the same call where nothing waits for its sender */
+    struct world without; /* the same call without what came in its way */
+    bool marks_wrong;     /* before it, and nothing else of the store */
     uint8_t sense_of_cdb[SENSE_ROOM]; /* as the last answer 2 left it, */
     uint8_t sense_of_list[SENSE_ROOM]; /* the last 5 */
     uint8_t sense_of_address[SENSE_ROOM]; /* and the last 3 or 8 */
@@ -195,10 +233,12 @@ static void print_hex(const char *name, const uint8_t *bytes, size_t count)
 static void print_outcome(struct run *run, const char *name,
                           struct world *world)
 {
-    printf("%s: answer %" PRIu64 ", returned %" PRIu64 "\n", name,
-           world->answer, world->returned);
+    printf("%s: answer %" PRIu64 ", returned %" PRIu64 "; room %" PRIu64
+           ", free %" PRIX64 ", lowest %" PRIX64 "\n",
+           name, world->answer, world->returned, world->room,
+           world->free_slots, world->lowest_free);
     console_store(run->lending.format, &world->unit, world->owners,
-                  run->lending.bytes[OWNERS] / 8);
+                  run->lending.bytes[OWNERS] / 8, &world->marks);
     print_hex("data-in", world->data_in, run->lending.bytes[DATA_IN]);
     print_hex("sense", world->sense, run->lending.bytes[SENSE]);
 }
@@ -214,7 +254,7 @@ static void fail(struct run *run, const char *what)
            run->lending.nexus, run->lending.bytes[MEDIUM]);
     print_hex("cdb", run->before.cdb, run->lending.bytes[CDB]);
     print_hex("data-out", run->before.data_out, run->lending.bytes[DATA_OUT]);
-    run->before.answer = run->before.returned = 0;
+    run->before.answer = run->before.returned = run->before.room = 0;
     print_outcome(run, "before", &run->before);
     print_outcome(run, "ridge", &run->ridge);
     print_outcome(run, "second", &run->second);
@@ -252,6 +292,8 @@ static void compare_libraries(struct run *run)
         fail(run, "the answers differ");
     if (run->ridge.returned != run->second.returned)
         fail(run, "the returned counts differ");
+    if (run->ridge.room != run->second.room)
+        fail(run, "the answers of room differ");
     for (enum part part = 0; part < PARTS; part++) {
         size_t count = run->lending.bytes[part] + 2 * GUARD;
         size_t at = first_difference(part_of(&run->ridge, part) - GUARD,
@@ -392,10 +434,15 @@ static struct occasion describe(const struct run *run)
     struct occasion call = {.format = run->lending.format,
                             .sound = sound,
                             .sized = sized,
+                            .marks_wrong = run->marks_wrong,
                             .unit = &before->unit,
                             .after = &run->second.unit,
                             .owners = before->owners,
+                            .owners_after = run->second.owners,
                             .slots = bytes[OWNERS] / 8,
+                            .marks = &before->marks,
+                            .marks_after = &run->second.marks,
+                            .medium_bytes = bytes[MEDIUM],
                             .nexus = run->lending.nexus,
                             .cdb = before->cdb,
                             .cdb_bytes = bytes[CDB],
@@ -407,7 +454,11 @@ static struct occasion describe(const struct run *run)
                             .sense_bytes = bytes[SENSE],
                             .answer = run->second.answer,
                             .without = run->without.answer,
-                            .returned = run->second.returned};
+                            .returned = run->second.returned,
+                            .asked = run->lending.asked,
+                            .room = run->second.room,
+                            .free_slots = run->second.free_slots,
+                            .lowest_free = run->second.lowest_free};
 
     return call;
 }
@@ -440,6 +491,64 @@ static void hold_told(struct run *run)
         fail(run, "13 changed more than what waited for the sender");
 }
 
+static bool marks_are_due(const struct lending *lending,
+                          const struct world *world)
+{
+    struct ridge_marks due = marks_due(world->owners,
+                                       lending->bytes[OWNERS] / 8);
+
+    return same_marks(&world->marks, &due);
+}
+
+/* What Q-7 says of the marks: a call that was usable leaves those that its
+   owners have. */
+static void hold_marks(struct run *run)
+{
+    if (run->ridge.answer != RIDGE_UNUSABLE &&
+        !marks_are_due(&run->lending, &run->ridge))
+        fail(run, "the marks are not those of the owners");
+}
+
+/* What a walk over the owners tells of room. */
+static bool room_is_due(const struct run *run)
+{
+    size_t slots = run->lending.bytes[OWNERS] / 8;
+    uint64_t free_slots = 0;
+    uint64_t lowest_free = slots;
+
+    for (size_t slot = slots; slot-- > 0;) {
+        if (run->ridge.owners[slot] == 0) {
+            free_slots++;
+            lowest_free = slot;
+        }
+    }
+    return run->ridge.free_slots == free_slots &&
+           run->ridge.lowest_free == lowest_free;
+}
+
+/* What Q-7 says of room, which is asked after the call: a store is valid then
+   if it was whole, or if the call found it so. */
+static void hold_room(struct run *run)
+{
+    const struct lending *lending = &run->lending;
+    bool told = run->ridge.room == RIDGE_GOOD;
+    bool valid = (lending->whole && is_format(lending->format)) ||
+                 run->ridge.answer != RIDGE_UNUSABLE;
+
+    if (!lending->asked)
+        return;
+    if (!told && run->ridge.room != RIDGE_UNUSABLE)
+        fail(run, "room is answered neither 0 nor 11");
+    if (told && lending->bad)
+        fail(run, "room is told where 11 is due");
+    if (!told && valid)
+        fail(run, "room is refused where the store is valid");
+    if (told && !room_is_due(run))
+        fail(run, "room is not what a walk over the owners tells");
+    for (enum part part = FREE_SLOTS; part <= LOWEST_FREE; part++)
+        hold_unchanged(run, part, told ? lending->bytes[part] : 0);
+}
+
 /* What 01 says of every call, whichever command it is. */
 static void hold_rules(struct run *run)
 {
@@ -463,6 +572,7 @@ static void hold_rules(struct run *run)
     hold_unchanged(run, DATA_OUT, 0);
     hold_unchanged(run, DATA_IN, (size_t)run->ridge.returned);
     hold_sense(run);
+    hold_marks(run);
 }
 
 /* ---- Making calls ---- */
@@ -490,13 +600,17 @@ static void lend_request(struct run *run)
     lending->format = lend_format(run);
     lending->bytes[UNIT] = sizeof run->store.unit;
     lending->bytes[OWNERS] = 8 * run->store.slots;
+    lending->bytes[MARKS] = sizeof run->store.marks;
     lending->bytes[MEDIUM] = RIDGE_BLOCK_BYTES * run->store.slots;
     lending->bytes[CDB] = request->cdb_bytes;
     lending->bytes[DATA_OUT] = request->data_out_bytes;
     lending->bytes[DATA_IN] = request->data_in_bytes;
     lending->bytes[SENSE] = request->sense_bytes;
+    lending->bytes[FREE_SLOTS] = sizeof run->before.free_slots;
+    lending->bytes[LOWEST_FREE] = sizeof run->before.lowest_free;
+    lending->bad = !is_format(lending->format);
     lending->due_11 = request->nexus > RIDGE_NEXUS_LAST ||
-                      request->cdb_bytes == 0 || !is_format(lending->format) ||
+                      request->cdb_bytes == 0 ||
                       request->sense_bytes < sense_wanted(lending->format);
 }
 
@@ -505,7 +619,7 @@ static void damage_sizes(struct run *run)
 {
     size_t *bytes = run->lending.bytes;
 
-    run->lending.due_11 = true;
+    run->lending.bad = true;
     switch (random_below(&run->random, 3)) {
     case 0:
         bytes[OWNERS] = 8 * (size_t)RANDOM_CHOICE(&run->random, 0, 129);
@@ -522,18 +636,24 @@ static void damage_sizes(struct run *run)
     }
 }
 
-static bool is_large(const struct store *store)
+/* What such slots hold: those that the store has not are free, and the marks go
+   with the others, so that the sizes alone are wrong. */
+static void fit_slots(struct run *run)
 {
-    return store->slots >= LARGE_SLOTS;
+    size_t slots = run->lending.bytes[OWNERS] / 8;
+
+    for (size_t slot = run->store.slots; slot < slots; slot++)
+        run->before.owners[slot] = 0;
+    run->before.marks = marks_due(run->before.owners, slots);
 }
 
 static void damage_lent(struct run *run)
 {
     struct lent lent = {&run->before.unit, run->before.owners,
-                        run->store.slots};
+                        run->store.slots, &run->before.marks};
     size_t way = damage_store(&run->random, &lent);
 
-    run->lending.due_11 |= damage_is_invalid(way);
+    run->lending.bad |= damage_is_invalid(way);
     run->figures.damages[way]++;
 }
 
@@ -583,39 +703,58 @@ static void keep_sense(struct run *run)
     }
 }
 
-/* Fills `before`, mostly with the store as it is. */
-static void prepare(struct run *run)
+/* Fills `before` with the store as it is, as far as the call lends it. */
+static void fill_before(struct run *run)
 {
     const struct request *request = &run->request;
-    bool whole = !random_percent(&run->random, is_large(&run->store) ? 15 : 6);
-    bool sizes = !whole && random_percent(&run->random, 25);
 
-    lend_request(run);
-    run->lending.whole = whole;
-    if (sizes)
-        damage_sizes(run);
     for (enum part part = 0; part < PARTS; part++)
         if (part != MEDIUM || run->lending.bytes[MEDIUM] !=
                                   RIDGE_BLOCK_BYTES * run->store.slots)
             fill_part(run, part);
     put_part(run, UNIT, &run->store.unit, sizeof run->store.unit);
     put_part(run, OWNERS, run->store.owners, 8 * run->store.slots);
+    put_part(run, MARKS, &run->store.marks, sizeof run->store.marks);
     put_part(run, MEDIUM, run->store.medium,
              RIDGE_BLOCK_BYTES * run->store.slots);
     put_part(run, CDB, request->cdb, request->cdb_bytes);
     put_part(run, DATA_OUT, request->data_out, request->data_out_bytes);
     lend_sense_again(run);
-    if (!whole && !sizes)
+}
+
+/* Mostly the store is lent as it is. Where it is not, the call may have a fault
+   as well, which must not come first. A check of many slots takes long, so that
+   then room is not asked for each time. */
+static void prepare(struct run *run)
+{
+    bool many = run->store.slots >= EDGE_SLOTS;
+    bool whole = !random_percent(&run->random, many ? 20 : 11);
+    bool sizes = !whole && random_percent(&run->random, 20);
+
+    if (!whole && random_percent(&run->random, FAULTY))
+        generate_fault(&run->random, &run->store, &run->request);
+    lend_request(run);
+    run->lending.whole = whole;
+    run->lending.asked = !many || !whole || random_percent(&run->random, ASKED);
+    if (sizes)
+        damage_sizes(run);
+    fill_before(run);
+    if (sizes)
+        fit_slots(run);
+    else if (!whole)
         damage_lent(run);
     mimic_behind(run);
+    run->lending.bad |= !marks_are_due(&run->lending, &run->before);
+    run->lending.due_11 |= run->lending.bad;
     run->figures.damaged += whole ? 0 : 1;
 }
 
 typedef uint64_t execute_function(
     uint64_t format, struct ridge_unit *unit, uint64_t *owners, size_t slots,
-    uint8_t *medium, size_t medium_bytes, uint64_t nexus, const uint8_t *cdb,
-    size_t cdb_bytes, const uint8_t *data_out, size_t data_out_bytes,
-    uint8_t *data_in, size_t data_in_bytes, uint8_t *sense, size_t sense_bytes,
+    struct ridge_marks *marks, uint8_t *medium, size_t medium_bytes,
+    uint64_t nexus, const uint8_t *cdb, size_t cdb_bytes,
+    const uint8_t *data_out, size_t data_out_bytes, uint8_t *data_in,
+    size_t data_in_bytes, uint8_t *sense, size_t sense_bytes,
     uint64_t *returned);
 
 static void execute(const struct lending *lending, struct world *world,
@@ -625,9 +764,29 @@ static void execute(const struct lending *lending, struct world *world,
 
     world->answer = function(
         lending->format, &world->unit, world->owners, bytes[OWNERS] / 8,
-        world->medium, bytes[MEDIUM], lending->nexus, world->cdb, bytes[CDB],
-        world->data_out, bytes[DATA_OUT], world->data_in, bytes[DATA_IN],
-        world->sense, bytes[SENSE], &world->returned);
+        &world->marks, world->medium, bytes[MEDIUM], lending->nexus, world->cdb,
+        bytes[CDB], world->data_out, bytes[DATA_OUT], world->data_in,
+        bytes[DATA_IN], world->sense, bytes[SENSE], &world->returned);
+}
+
+typedef uint64_t room_function(uint64_t format, const struct ridge_unit *unit,
+                               const uint64_t *owners, size_t slots,
+                               const struct ridge_marks *marks,
+                               const uint8_t *medium, size_t medium_bytes,
+                               uint64_t *free_slots, uint64_t *lowest_free);
+
+static void ask_room(const struct lending *lending, struct world *world,
+                     room_function *function)
+{
+    const size_t *bytes = lending->bytes;
+
+    world->room = RIDGE_GOOD;
+    if (!lending->asked)
+        return;
+    world->room = function(lending->format, &world->unit, world->owners,
+                           bytes[OWNERS] / 8, &world->marks, world->medium,
+                           bytes[MEDIUM], &world->free_slots,
+                           &world->lowest_free);
 }
 
 /* The store goes on as the second program left it. */
@@ -636,6 +795,7 @@ static void keep_store(struct run *run)
     const struct world *world = &run->second;
 
     run->store.unit = world->unit;
+    run->store.marks = world->marks;
     memcpy(run->store.owners, world->owners, run->lending.bytes[OWNERS]);
     memcpy(run->store.medium, world->medium, run->lending.bytes[MEDIUM]);
 }
@@ -723,13 +883,30 @@ static void count_cell(struct run *run, uint8_t code)
         run->figures.cells[cell]++;
 }
 
-/* What the call in hand is answered where nothing waits for its sender. */
-static void execute_without(struct run *run)
+static void copy_without(struct run *run)
 {
     for (enum part part = 0; part < PARTS; part++)
         memcpy(part_of(&run->without, part), part_of(&run->before, part),
                run->lending.bytes[part]);
+}
+
+/* What the call in hand is answered where nothing waits for its sender. */
+static void execute_without_waiting(struct run *run)
+{
+    copy_without(run);
     run->without.unit.attentions[run->lending.nexus] = RIDGE_NO_ATTENTION;
+    execute(&run->lending, &run->without, second_execute);
+}
+
+/* What it is answered with right marks; whether with those room is told, so
+   that nothing else was wrong. */
+static void execute_with_right_marks(struct run *run)
+{
+    copy_without(run);
+    run->without.marks = marks_due(run->before.owners,
+                                   run->lending.bytes[OWNERS] / 8);
+    ask_room(&run->lending, &run->without, second_room);
+    run->marks_wrong = run->without.room == RIDGE_GOOD;
     execute(&run->lending, &run->without, second_execute);
 }
 
@@ -737,11 +914,15 @@ static void count_occasions(struct run *run)
 {
     struct occasion call;
 
+    run->marks_wrong = false;
     if (run->second.answer == RIDGE_ATTENTION)
-        execute_without(run);
+        execute_without_waiting(run);
+    else if (!marks_are_due(&run->lending, &run->before))
+        execute_with_right_marks(run);
     call = describe(run);
     occasions_count(&call, run->figures.occasions);
     attentions_count(&call, &run->figures.attentions);
+    marks_count(&call, &run->figures.marks);
 }
 
 static void count_call(struct run *run)
@@ -775,7 +956,9 @@ static void make_call(struct run *run)
         generate_rare(&run->random, store, &run->request);
     else if (kind < rare + NOTICES)
         generate_notice(&run->random, store, &run->request);
-    else if (kind >= rare + NOTICES + ATTENDED ||
+    else if (kind < rare + NOTICES + ROOMS)
+        generate_room(&run->random, store, &run->request);
+    else if (kind >= rare + NOTICES + ROOMS + ATTENDED ||
              !generate_attended(&run->random, store, &run->request))
         generate_request(&run->random, store,
                          generate_nexus(&run->random, &store->unit.rights),
@@ -790,9 +973,12 @@ static void one_call(struct run *run)
     run->figures.calls++;
     execute(&run->lending, &run->ridge, ridge_execute);
     execute(&run->lending, &run->second, second_execute);
+    ask_room(&run->lending, &run->ridge, ridge_room);
+    ask_room(&run->lending, &run->second, second_room);
     compare_libraries(run);
     hold_rules(run);
     hold_attentions(run);
+    hold_room(run);
     count_call(run);
     keep_sense(run);
     if (run->lending.whole)
@@ -812,6 +998,7 @@ static uint64_t fresh_bounds(struct run *run)
     lending->format = generate_format(&run->random);
     lending->bytes[UNIT] = sizeof(struct ridge_unit);
     lending->bytes[OWNERS] = 8 * slots;
+    lending->bytes[MARKS] = sizeof(struct ridge_marks);
     switch (random_below(&run->random, 8)) {
     case 0:
         lending->due_11 = true;
@@ -832,6 +1019,50 @@ static uint64_t fresh_bounds(struct run *run)
     }
 }
 
+/* Any bytes for what was there before, but for the marks, of which a word may
+   be 0. */
+static void fill_before_fresh(struct run *run)
+{
+    uint64_t kind = random_below(&run->random, 10);
+
+    for (enum part part = 0; part < PARTS; part++)
+        fill_part(run, part);
+    if (kind == 0 || kind == 1)
+        run->before.marks.words[0] = 0;
+    if (kind == 0 || kind == 2)
+        run->before.marks.words[1] = 0;
+}
+
+/* What 01 and Q-7 say of a fresh store. */
+static void hold_fresh(struct run *run, uint64_t capacity)
+{
+    const struct ridge_unit due = {.capacity = capacity};
+    const struct world *world = &run->ridge;
+
+    if (world->answer != RIDGE_GOOD)
+        fail(run, "good bounds are refused");
+    if (memcmp(&world->unit, &due, sizeof due) != 0)
+        fail(run, "the record of a fresh store is another");
+    for (size_t slot = 0; slot < run->lending.bytes[OWNERS] / 8; slot++) {
+        if (world->owners[slot] != 0)
+            fail(run, "a fresh store has a mapping");
+    }
+    if (world->marks.words[0] != 0 || world->marks.words[1] != 0)
+        fail(run, "a fresh store has a mark");
+}
+
+static void count_fresh(struct run *run, uint64_t capacity)
+{
+    const struct fresh_asked asked = {capacity, run->lending.format,
+                                      run->lending.bytes[OWNERS] / 8,
+                                      &run->before.marks};
+
+    run->figures.fresh++;
+    occasions_count_fresh(run->lending.format, run->second.answer,
+                          run->figures.occasions);
+    marks_count_fresh(&asked, &run->figures.marks);
+}
+
 /* Makes a fresh store by both libraries; false if they refuse it. */
 static bool fresh_store(struct run *run)
 {
@@ -839,24 +1070,22 @@ static bool fresh_store(struct run *run)
     uint64_t format = run->lending.format;
     size_t slots = run->lending.bytes[OWNERS] / 8;
 
-    for (enum part part = 0; part < PARTS; part++)
-        fill_part(run, part);
+    fill_before_fresh(run);
     copy_worlds(run);
     run->ridge.returned = run->second.returned = 0;
-    run->figures.fresh++;
-    run->ridge.answer = ridge_fresh(capacity, format, &run->ridge.unit,
-                                    run->ridge.owners, slots);
-    run->second.answer = second_fresh(capacity, format, &run->second.unit,
-                                      run->second.owners, slots);
+    run->ridge.room = run->second.room = 0;
+    run->ridge.answer =
+        ridge_fresh(capacity, format, &run->ridge.unit, run->ridge.owners,
+                    slots, &run->ridge.marks);
+    run->second.answer =
+        second_fresh(capacity, format, &run->second.unit, run->second.owners,
+                     slots, &run->second.marks);
     compare_libraries(run);
     hold_rules(run);
-    occasions_count_fresh(format, run->second.answer, run->figures.occasions);
+    count_fresh(run, capacity);
     if (run->lending.due_11)
         return false;
-    if (run->ridge.answer != RIDGE_GOOD)
-        fail(run, "good bounds are refused");
-    if (generate_waiting(&run->random, &run->ridge.unit) != RIDGE_NEXUSES)
-        fail(run, "something waits in a fresh store");
+    hold_fresh(run, capacity);
     run->store.format = format;
     run->store.slots = slots;
     keep_store(run);
@@ -991,26 +1220,36 @@ static bool print_occasions(const struct figures *figures, uint64_t floor)
     return enough;
 }
 
-/* Of each table of Q-6 the rarest cell. */
-static bool print_attentions(const struct figures *figures, uint64_t floor)
+/* Of a table the rarest cell. */
+static bool print_table(const struct tables *tables, size_t table,
+                        const uint64_t *met, uint64_t floor)
 {
-    char name[ATTENTION_NAME_ROOM];
+    char name[TABLE_NAME_ROOM];
+    bool enough = true;
+    size_t least = 0;
+
+    for (size_t cell = 0; cell < table_cells(tables, table); cell++) {
+        table_cell_name(tables, table, cell, name);
+        enough &= often_enough(name, met[cell], floor);
+        if (met[cell] < met[least])
+            least = cell;
+    }
+    table_cell_name(tables, table, least, name);
+    printf("rarest of %zu cells: %s: %" PRIu64 "\n",
+           table_cells(tables, table), name, met[least]);
+    return enough;
+}
+
+static bool print_tables(const struct figures *figures, uint64_t floor)
+{
     bool enough = true;
 
-    for (size_t table = 0; table < ATTENTION_TABLES; table++) {
-        const uint64_t *met = figures->attentions.of[table];
-        size_t least = 0;
-
-        for (size_t cell = 0; cell < attention_cells(table); cell++) {
-            attention_cell_name(table, cell, name);
-            enough &= often_enough(name, met[cell], floor);
-            if (met[cell] < met[least])
-                least = cell;
-        }
-        attention_cell_name(table, least, name);
-        printf("rarest of %zu cells: %s: %" PRIu64 "\n",
-               attention_cells(table), name, met[least]);
-    }
+    for (size_t table = 0; table < ATTENTION_TABLES; table++)
+        enough &= print_table(&attention_tables, table,
+                              figures->attentions.of[table], floor);
+    for (size_t table = 0; table < MARK_TABLES; table++)
+        enough &= print_table(&mark_tables, table, figures->marks.of[table],
+                              floor);
     return enough;
 }
 
@@ -1059,7 +1298,7 @@ static bool print_figures(const struct figures *figures)
     enough &= print_zero_keys(figures, floor / 20);
     enough &= print_cells(figures, floor / 5);
     enough &= print_occasions(figures, floor / 20);
-    enough &= print_attentions(figures, floor / 20);
+    enough &= print_tables(figures, floor / 20);
     enough &= print_damages(figures, floor / 2);
     return enough;
 }

@@ -126,11 +126,18 @@ size_t generate_slots(struct random *random)
 {
     uint64_t kind = random_below(random, 100);
 
-    if (kind < 68)
+    if (kind < 58)
         return (size_t)(1 + random_below(random, 8));
-    if (kind < 86)
+    if (kind < 73)
         return (size_t)(9 + random_below(random, 24));
-    if (kind < 92)
+    if (kind < 85)
+        return (size_t)RANDOM_CHOICE(random, 62, 63, 63, 63, 64, 64, 64, 64, 65,
+                                     65, 65, 66);
+    if (kind < 87)
+        return (size_t)(33 + random_below(random, LARGE_SLOTS - 33));
+    if (kind < 90)
+        return RIDGE_SLOTS - 1;
+    if (kind < 93)
         return (size_t)(LARGE_SLOTS +
                         random_below(random, RIDGE_SLOTS + 1 - LARGE_SLOTS));
     return RIDGE_SLOTS;
@@ -138,7 +145,7 @@ size_t generate_slots(struct random *random)
 
 static uint64_t small_capacity(struct random *random, size_t slots)
 {
-    if (slots >= LARGE_SLOTS && random_percent(random, 90))
+    if (slots >= EDGE_SLOTS && random_percent(random, 90))
         return slots + random_below(random, 60);
     if (slots >= RUNS_SLOTS && random_percent(random, 60))
         return RUNS_TOLD + random_below(random, RUNS_TOLD);
@@ -176,6 +183,15 @@ static uint64_t address_within(struct random *random, uint64_t capacity)
     default:
         return near;
     }
+}
+
+/* A slot at an end of the pool, or of a word of marks. */
+static size_t edge_slot(struct random *random, size_t slots)
+{
+    uint64_t slot = RANDOM_CHOICE(random, 0, 62, 63, 63, 63, 64, 64, 65,
+                                  slots - 1, slots - 1);
+
+    return slot < slots ? (size_t)slot : slots - 1;
 }
 
 static bool is_owner(const struct store *store, uint64_t owner)
@@ -258,16 +274,59 @@ static void alternate_runs(struct random *random, struct store *store)
     shuffle_owners(random, store);
 }
 
+/*
+ * All slots but a few that lie together, or these alone: at the end of a word
+ * of marks, at an end of the pool, or from there on. At times the blocks lie in
+ * falling order.
+ */
+static void fill_to_an_edge(struct random *random, struct store *store)
+{
+    uint64_t capacity = store->unit.capacity;
+    uint64_t most = capacity < store->slots ? capacity : store->slots;
+    uint64_t first = random_below(random, capacity - most + 1);
+    uint64_t hole = edge_slot(random, store->slots);
+    uint64_t holes = RANDOM_CHOICE(random, 0, 0, 0, 1, 1, 1, 2, 2, 3,
+                                   RIDGE_SLOTS);
+    bool alone = random_percent(random, 20);
+    bool falling = random_percent(random, 20);
+
+    for (uint64_t slot = 0; slot < most; slot++) {
+        if ((slot >= hole && slot - hole < holes) == alone)
+            store->owners[slot] = first + (falling ? most - slot : slot + 1);
+    }
+}
+
+/* From the last slot down: each one pushes those above it up by a bit. */
+struct ridge_marks marks_due(const uint64_t *owners, size_t slots)
+{
+    struct ridge_marks marks = {{0}};
+
+    while (slots-- > 0) {
+        uint64_t *word = &marks.words[slots < 64 ? 0 : 1];
+
+        *word = *word << 1 | (owners[slots] == 0 ? 0 : 1);
+    }
+    return marks;
+}
+
+bool same_marks(const struct ridge_marks *one, const struct ridge_marks *other)
+{
+    return one->words[0] == other->words[0] && one->words[1] == other->words[1];
+}
+
 void generate_map(struct random *random, struct store *store)
 {
     memset(store->owners, 0, sizeof store->owners);
     random_fill(random, store->medium, store->slots * RIDGE_BLOCK_BYTES);
-    if (store->slots >= LARGE_SLOTS && random_percent(random, 70))
+    if (store->slots >= EDGE_SLOTS && random_percent(random, 45))
+        fill_to_an_edge(random, store);
+    else if (store->slots >= LARGE_SLOTS && random_percent(random, 70))
         fill_in_order(random, store);
     else if (store->slots >= RUNS_SLOTS && random_percent(random, 60))
         alternate_runs(random, store);
     else
         strew_blocks(random, store);
+    store->marks = marks_due(store->owners, store->slots);
 }
 
 /* Few different keys, so that some nexuses share one. */
@@ -505,16 +564,57 @@ static void large_range(struct random *random, const struct store *store,
         *count = capacity - *address;
 }
 
+static uint64_t free_slots(const struct store *store)
+{
+    uint64_t count = 0;
+
+    for (size_t slot = 0; slot < store->slots; slot++)
+        count += store->owners[slot] == 0 ? 1 : 0;
+    return count;
+}
+
+/* The blocks from that address on, as far as one command and the capacity
+   reach, of which so many are unmapped; at least one. */
+static uint64_t count_of_unmapped(const struct store *store, uint64_t address,
+                                  uint64_t unmapped)
+{
+    uint64_t count = 0;
+
+    for (; count < RIDGE_TRANSFER_BLOCKS; count++) {
+        bool mapped = is_owner(store, address + count + 1);
+
+        if (address + count == store->unit.capacity ||
+            (!mapped && unmapped == 0))
+            break;
+        unmapped -= mapped ? 0 : 1;
+    }
+    return count == 0 ? 1 : count;
+}
+
+/* As many unmapped blocks as there are free slots, or one more. */
+static void tight_range(struct random *random, const struct store *store,
+                        uint64_t *address, uint64_t *count)
+{
+    uint64_t more = random_below(random, 2);
+
+    *address = address_within(random, store->unit.capacity);
+    *count = count_of_unmapped(store, *address, free_slots(store) + more);
+}
+
 /* The range of a READ or WRITE. */
 static void generate_range(struct random *random, const struct store *store,
                            uint64_t *address, uint64_t *count)
 {
-    if (store->slots >= LARGE_SLOTS && random_percent(random, 45)) {
+    uint64_t kind = random_below(random, 100);
+
+    if (store->slots >= LARGE_SLOTS && kind < 50) {
         large_range(random, store, address, count);
-        return;
+    } else if (kind >= 88) {
+        tight_range(random, store, address, count);
+    } else {
+        *address = generate_address(random, store);
+        *count = generate_count(random, store, *address);
     }
-    *address = generate_address(random, store);
-    *count = generate_count(random, store, *address);
 }
 
 /* ---- The commands ---- */
@@ -633,13 +733,13 @@ static void make_write(struct random *random, const struct store *store,
 }
 
 /* The address of a mapped block at times, so that UNMAP frees something, and
-   often enough that in the last slot. */
+   often enough that in the last slot, or at the end of a word of marks. */
 static uint64_t unmap_address(struct random *random, const struct store *store)
 {
-    uint64_t before_last = random_percent(random, 15)
-                               ? 0
-                               : random_below(random, store->slots);
-    uint64_t owner = store->owners[store->slots - 1 - before_last];
+    size_t slot = random_percent(random, 25)
+                      ? edge_slot(random, store->slots)
+                      : (size_t)random_below(random, store->slots);
+    uint64_t owner = store->owners[slot];
 
     if (owner != 0 && random_percent(random, 60))
         return owner - 1;
@@ -648,6 +748,7 @@ static uint64_t unmap_address(struct random *random, const struct store *store)
     return generate_address(random, store);
 }
 
+/* Seldom one that names everything, as far as its count reaches. */
 static void put_descriptors(struct random *random, const struct store *store,
                             struct request *request, size_t descriptors)
 {
@@ -658,6 +759,10 @@ static void put_descriptors(struct random *random, const struct store *store,
         uint64_t address = unmap_address(random, store);
         uint64_t count = generate_count(random, store, address);
 
+        if (random_percent(random, 1)) {
+            address = 0;
+            count = capacity < UINT32_MAX ? capacity : UINT32_MAX;
+        }
         if (address < capacity && count > capacity - address &&
             random_percent(random, 80))
             count = capacity - address;
@@ -796,43 +901,6 @@ static void make_inquiry_page(struct random *random, const struct store *store,
 }
 
 /* ---- WRITE SAME ---- */
-
-static uint64_t free_slots(const struct store *store)
-{
-    uint64_t count = 0;
-
-    for (size_t slot = 0; slot < store->slots; slot++)
-        count += store->owners[slot] == 0 ? 1 : 0;
-    return count;
-}
-
-/* The blocks from that address on, as far as one command and the capacity
-   reach, of which so many are unmapped; at least one. */
-static uint64_t count_of_unmapped(const struct store *store, uint64_t address,
-                                  uint64_t unmapped)
-{
-    uint64_t count = 0;
-
-    for (; count < RIDGE_TRANSFER_BLOCKS; count++) {
-        bool mapped = is_owner(store, address + count + 1);
-
-        if (address + count == store->unit.capacity ||
-            (!mapped && unmapped == 0))
-            break;
-        unmapped -= mapped ? 0 : 1;
-    }
-    return count == 0 ? 1 : count;
-}
-
-/* As many unmapped blocks as there are free slots, or one more. */
-static void tight_range(struct random *random, const struct store *store,
-                        uint64_t *address, uint64_t *count)
-{
-    uint64_t more = random_below(random, 2);
-
-    *address = address_within(random, store->unit.capacity);
-    *count = count_of_unmapped(store, *address, free_slots(store) + more);
-}
 
 /* A count of 0 is refused whatever else there is, so it is made seldom. */
 static void same_range(struct random *random, const struct store *store,
@@ -1086,8 +1154,8 @@ static uint64_t refused_count(struct random *random, const struct store *store,
 static void make_told_transfer(struct random *random, const struct store *store,
                                struct request *request)
 {
-    uint8_t code = (uint8_t)RANDOM_CHOICE(random, 0x28, 0x88, 0x2A, 0x2A, 0x8A,
-                                          0x8A, 0x93, 0x93);
+    uint8_t code = (uint8_t)RANDOM_CHOICE(random, 0x28, 0x88, 0x88, 0x2A, 0x2A,
+                                          0x8A, 0x8A, 0x8A, 0x93, 0x93, 0x93);
     uint64_t address = told_address(random, store);
     uint64_t count;
 
@@ -1455,19 +1523,19 @@ static void make_other_code(struct random *random, const struct store *store,
 }
 
 /* How often each command is made, in parts of the sum. */
-enum { SHARES = 132 };
+enum { SHARES = 144 };
 
 static const struct {
     unsigned share;
     make_function *make;
 } makers[] = {
-    {3, make_test_unit_ready},  {5, make_inquiry},
-    {5, make_inquiry_page},     {3, make_read_capacity_10},
-    {4, make_read_capacity_16}, {14, make_read},
-    {16, make_write},           {10, make_unmap},
+    {5, make_test_unit_ready},  {5, make_inquiry},
+    {6, make_inquiry_page},     {5, make_read_capacity_10},
+    {5, make_read_capacity_16}, {14, make_read},
+    {15, make_write},           {10, make_unmap},
     {9, make_write_same},       {10, make_get_lba_status},
-    {7, make_reserve_in},       {19, make_reserve_out},
-    {14, make_wrong_fields},    {11, make_told},
+    {10, make_reserve_in},      {19, make_reserve_out},
+    {15, make_wrong_fields},    {14, make_told},
     {2, make_other_code},
 };
 
@@ -1484,7 +1552,15 @@ static void make_any(struct random *random, const struct store *store,
     makers[index].make(random, store, request);
 }
 
-/* Spoils one thing of the call, but not its nexus. */
+/* An operation code that is not listed. */
+static uint8_t other_code(struct random *random)
+{
+    return (uint8_t)RANDOM_CHOICE(random, 0x01, 0x08, 0x1A, 0x2F, 0x41, 0x7F,
+                                  0xA0, 0xFF);
+}
+
+/* Spoils one thing of the call, but not its nexus; where sense is too short, at
+   times the operation code too, which must not be looked at then. */
 static void damage(struct random *random, const struct store *store,
                    struct request *request)
 {
@@ -1505,6 +1581,8 @@ static void damage(struct random *random, const struct store *store,
         break;
     case 3:
         request->sense_bytes = too_little_sense(random, store->format);
+        if (random_percent(random, 20))
+            request->cdb[0] = other_code(random);
         break;
     default:
         request->data_out_bytes = (size_t)random_below(random, 600);
@@ -1746,4 +1824,113 @@ bool generate_attended(struct random *random, const struct store *store,
         request->nexus +=
             UINT64_C(1) << RANDOM_CHOICE(random, 4, 8, 16, 32, 63);
     return true;
+}
+
+/* ---- Calls that take and free slots ---- */
+
+/* Nobody is stopped where there is no reservation, and a holder never is. */
+static uint64_t served_nexus(struct random *random,
+                             const struct ridge_unit *unit)
+{
+    const struct ridge_rights *rights = &unit->rights;
+    uint64_t nexus = random_below(random, RIDGE_NEXUSES);
+
+    if (rights->type != 0)
+        return rights->type >= 7 ? ready_nexus(random, unit, 0)
+                                 : rights->holder;
+    for (size_t step = 0; step < RIDGE_NEXUSES; step++) {
+        if (unit->attentions[nexus] == RIDGE_NO_ATTENTION)
+            return nexus;
+        nexus = (nexus + 1) % RIDGE_NEXUSES;
+    }
+    return nexus;
+}
+
+static void make_taking(struct random *random, const struct store *store,
+                        struct request *request)
+{
+    bool same = random_percent(random, 60);
+    uint64_t address;
+    uint64_t count;
+
+    tight_range(random, store, &address, &count);
+    start_cdb(random, request, same ? 0x93 : 0x8A, 16);
+    request->cdb[1] &= same ? 0x07 : 0x1F;
+    put_range(request, address, count);
+    request->data_out_bytes = (same ? 1 : (size_t)count) * RIDGE_BLOCK_BYTES;
+    random_fill(random, request->data_out, request->data_out_bytes);
+}
+
+/* From the block in such a slot on; blocks that follow it may lie beside it. */
+static void edge_range(struct random *random, const struct store *store,
+                       uint64_t *address, uint64_t *count)
+{
+    uint64_t owner = store->owners[edge_slot(random, store->slots)];
+    uint64_t left;
+
+    *address = owner == 0 ? address_within(random, store->unit.capacity)
+                          : owner - 1;
+    left = store->unit.capacity - *address;
+    *count = RANDOM_CHOICE(random, 1, 1, 1, 2, 2, 2, 3, RIDGE_TRANSFER_BLOCKS);
+    if (*count > left)
+        *count = left;
+}
+
+static void make_freeing(struct random *random, const struct store *store,
+                         struct request *request)
+{
+    uint64_t address;
+    uint64_t count;
+
+    edge_range(random, store, &address, &count);
+    if (random_percent(random, 60)) {
+        start_cdb(random, request, 0x93, 16);
+        request->cdb[1] = (uint8_t)((request->cdb[1] & 0x06) | 0x09);
+        put_range(request, address, count);
+        return;
+    }
+    start_cdb(random, request, 0x42, 10);
+    request->cdb[1] &= 0xFE;
+    put(request->cdb + 7, 2, 24);
+    random_fill(random, request->data_out, 24);
+    put(request->data_out + 2, 2, 16);
+    put(request->data_out + 8, 8, address);
+    put(request->data_out + 16, 4, count);
+    request->data_out_bytes = 24;
+}
+
+void generate_room(struct random *random, const struct store *store,
+                   struct request *request)
+{
+    request->nexus = served_nexus(random, &store->unit);
+    if (random_percent(random, 50))
+        make_taking(random, store, request);
+    else
+        make_freeing(random, store, request);
+    finish_request(random, store, request);
+}
+
+/* ---- Faults ---- */
+
+/* A CDB of no bytes is unusable anyway. */
+void generate_fault(struct random *random, const struct store *store,
+                    struct request *request)
+{
+    uint64_t waiting = generate_waiting(random, &store->unit);
+    size_t bytes = request->cdb_bytes;
+
+    switch (random_below(random, 3)) {
+    case 0:
+        request->cdb[0] = other_code(random);
+        break;
+    case 1:
+        if (bytes > 0)
+            request->cdb_bytes =
+                (size_t)RANDOM_CHOICE(random, bytes - 1, bytes - 1, bytes + 1);
+        break;
+    default:
+        if (waiting != RIDGE_NEXUSES)
+            request->nexus = waiting;
+        break;
+    }
 }

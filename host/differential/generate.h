@@ -24,6 +24,9 @@ enum {
     /* A store of so many slots is a large one: transfers of 100 to 128 blocks
        and damage at its last slots are what it is for. */
     LARGE_SLOTS = 100,
+    /* A store of so many slots fills a word of marks, or nearly: what it is for
+       is the end of that word, and what lies behind it. */
+    EDGE_SLOTS = 62,
     /* With so many slots there may be more runs of mapped and of unmapped
        blocks than one GET LBA STATUS tells of. */
     RUNS_SLOTS = 16,
@@ -40,6 +43,7 @@ struct store {
     struct ridge_unit unit;
     uint64_t owners[RIDGE_SLOTS];
     size_t slots;
+    struct ridge_marks marks;
     uint8_t medium[RIDGE_SLOTS * RIDGE_BLOCK_BYTES];
 };
 
@@ -72,16 +76,23 @@ uint64_t random_choice(struct random *random, const uint64_t *words,
     random_choice(random, (const uint64_t[]){__VA_ARGS__},           \
                   sizeof((const uint64_t[]){__VA_ARGS__}) / sizeof(uint64_t))
 
-/* A number of slots within bounds: mostly few, else LARGE_SLOTS and more. */
+/* A number of slots within bounds: mostly few, else about as many as a word of
+   marks has bits, or LARGE_SLOTS and more. */
 size_t generate_slots(struct random *random);
 
 /* A capacity within bounds for so many slots: small or at an edge of the field
    widths, and seldom below what a large pool holds. */
 uint64_t generate_capacity(struct random *random, size_t slots);
 
-/* Gives the store a random valid map and random medium bytes: blocks strewn
-   over the slots, short runs and gaps in turn, or most slots of a large store
-   filled in order. */
+/* The marks that go with these owners, as Q-7 has them. The tests make them by
+   themselves, in another way than either program. */
+struct ridge_marks marks_due(const uint64_t *owners, size_t slots);
+
+bool same_marks(const struct ridge_marks *one, const struct ridge_marks *other);
+
+/* Gives the store a random valid map, its marks and random medium bytes: blocks
+   strewn over the slots, short runs and gaps in turn, most slots of a large
+   store filled in order, or as many as reach an end of a word of marks. */
 void generate_map(struct random *random, struct store *store);
 
 /* Makes random registrations, some of which may share a key, and no
@@ -151,6 +162,18 @@ uint64_t generate_waiting(struct random *random, const struct ridge_unit *unit);
    makes no call and says false. */
 bool generate_attended(struct random *random, const struct store *store,
                        struct request *request);
+
+/* A call that takes the last free slots, or wants one more, or that frees slots
+   at an end of the pool or of a word of marks; mostly by a nexus that no
+   reservation stops and for which nothing waits. */
+void generate_room(struct random *random, const struct store *store,
+                   struct request *request);
+
+/* Gives the call a fault that is tested only after the state: an operation code
+   that is not listed, a CDB of another length, or a sender for whom something
+   waits, where there is one. */
+void generate_fault(struct random *random, const struct store *store,
+                    struct request *request);
 
 /* The key of a nexus, 0 if it is not registered. */
 uint64_t key_of(const struct ridge_rights *rights, uint64_t nexus);

@@ -1,27 +1,30 @@
 /*
- * ridge.h - the C interface of the proved library libridge.a, version 4.0.0
+ * ridge.h - the C interface of the proved library libridge.a, version 5.0.0
  *
  * One thinly provisioned direct access logical unit: blocks of 512 bytes,
  * unmapped blocks read as zeros. The caller lends all memory; the library
  * allocates nothing, keeps nothing between calls and has no global state.
  *
- * A STORE is four things the caller keeps:
+ * A STORE is five things the caller keeps:
  *   format   of its sense data, enum ridge_format below: chosen when the store
  *            is made, and changed by no call
  *   unit     the unit's record, struct ridge_unit below
  *   owners   one word of 64 bits per slot: 0 is free, otherwise the block
  *            address plus 1 of the block that lies in the slot
+ *   marks    one bit per slot, struct ridge_marks below: set exactly if a block
+ *            lies in the slot
  *   medium   512 bytes per slot, slot 0 first
  *
  * LENT BUFFERS. All buffers of one call are disjoint: no two of *unit, owners,
- * medium, cdb, data_out, data_in, sense and *returned share a byte. None is
- * kept after the call returns. No pointer is null, not even that of a buffer
- * of 0 bytes. unit, owners and returned are aligned to 8 bytes.
+ * *marks, medium, cdb, data_out, data_in, sense, *returned, *free_slots and
+ * *lowest_free share a byte. None is kept after the call returns. No pointer is
+ * null, not even that of a buffer of 0 bytes. unit, owners, marks, returned,
+ * free_slots and lowest_free are aligned to 8 bytes.
  *
  * THREADS. Every call is complete in itself. Calls on different stores may run
  * on different threads at once; one store is one thread's at a time.
  *
- * ANSWERS. Both functions return one of these numbers (9 is not used):
+ * ANSWERS. Each function returns one of these numbers (9 is not used):
  *
  *   No.  Status     Sense       When
  *    0   00h GOOD   none        done
@@ -84,7 +87,7 @@ extern "C" {
 #endif
 
 /*
- * The interface number is that of the two functions, the record's fields and
+ * The interface number is that of the functions, the record's fields and
  * where they lie, the bounds and the answer numbers below. It rises when a
  * caller, or a record kept by one, that was right under the old number may be
  * wrong under the new one: another parameter, another field, another width,
@@ -95,18 +98,19 @@ extern "C" {
  * functions take the store's format of sense data; a store of interface 2 is
  * one of interface 3 with the format RIDGE_FIXED. From 3 to 4 the record has
  * attentions at its end; a record of interface 3 with 16 bytes of 0 behind it
- * is one of interface 4.
+ * is one of interface 4. From 4 to 5 a store has marks; one of interface 4 is
+ * one of interface 5 with the marks that its owners have.
  *
  * Of the version, the first number rises with the interface, the second when
  * commands or answers are added that leave old callers right, the third when
  * neither changes. CHANGELOG.md says what each version brought. The revision
  * 0100 that INQUIRY returns is the product's, and none of these.
  */
-#define RIDGE_INTERFACE 4
-#define RIDGE_VERSION_MAJOR 4
+#define RIDGE_INTERFACE 5
+#define RIDGE_VERSION_MAJOR 5
 #define RIDGE_VERSION_MINOR 0
 #define RIDGE_VERSION_PATCH 0
-#define RIDGE_VERSION "4.0.0"
+#define RIDGE_VERSION "5.0.0"
 
 /*
  * The most blocks and the most descriptors a host reads from the unit itself:
@@ -115,6 +119,8 @@ extern "C" {
 enum ridge_bound {
     RIDGE_BLOCK_BYTES = 512,    /* bytes of one block, and of one slot */
     RIDGE_SLOTS = 128,          /* most slots a pool may have; least is 1 */
+    RIDGE_MARK_WORDS = 2,       /* words of marks, whatever the slots */
+    RIDGE_WORD_SLOTS = 64,      /* slots marked in one of them */
     RIDGE_TRANSFER_BLOCKS = 128,/* most blocks of READ, WRITE, WRITE SAME */
     RIDGE_DESCRIPTORS = 16,     /* most UNMAP descriptors considered */
     RIDGE_STATUS_DESCRIPTORS = 32,/* most descriptors GET LBA STATUS tells */
@@ -131,7 +137,7 @@ enum ridge_bound {
 /*
  * The formats of sense data, by their response codes. A store has one: it is
  * given to ridge_fresh, kept with the store, and given to every ridge_execute.
- * Any other number is part of no valid state: both functions answer 11.
+ * Any other number is part of no valid state: each function answers 11.
  */
 enum ridge_format {
     RIDGE_FIXED = 0x70,
@@ -158,12 +164,13 @@ enum ridge_attention {
  * 257 is not type 1.
  *
  * A valid state is: the format one of the two; the capacity 1 to 2^40; no owner
- * above the capacity, no two slots of one block; a place is used exactly if its
+ * above the capacity, no two slots of one block; a mark for each slot whose
+ * owner is not 0, and no other mark; a place is used exactly if its
  * key is not 0, used places have different nexuses up to 15, unused ones nexus
  * 0; the type is 0 (none, holder 0) or 1, 3, 5, 6 (holder is a registered
  * nexus) or 7, 8 (holder 0, somebody is registered); each attention is 0 to 3,
  * whether its nexus is registered or not. Every generation is valid. In any
- * other state ridge_execute answers 11.
+ * other state ridge_execute and ridge_room answer 11.
  *
  * Numbers are in the machine's byte order. A file wants an order of its own:
  * the project's host/serve/store.c has one.
@@ -184,6 +191,16 @@ struct ridge_unit {
     uint64_t capacity;          /* blocks */
     struct ridge_rights rights; /* registrations and reservation */
     uint8_t attentions[RIDGE_NEXUSES]; /* what waits for each nexus */
+};
+
+/*
+ * The marks of a pool, 16 bytes: slot i is bit i % 64, counted from the lowest,
+ * of words[i / 64]. It is set exactly if owners[i] is not 0; bits of slots that
+ * the pool does not have are 0. The library keeps them so; a caller that changes
+ * owners by itself changes their marks too.
+ */
+struct ridge_marks {
+    uint64_t words[RIDGE_MARK_WORDS];
 };
 
 /*
@@ -222,6 +239,10 @@ RIDGE_FIELD(ridge_unit, attentions, 152, 16);
 RIDGE_HOLDS(sizeof(struct ridge_unit) == 168);
 RIDGE_HOLDS(RIDGE_ALIGNMENT(struct ridge_unit) == 8);
 
+RIDGE_FIELD(ridge_marks, words, 0, 16);
+RIDGE_HOLDS(sizeof(struct ridge_marks) == 16);
+RIDGE_HOLDS(RIDGE_ALIGNMENT(struct ridge_marks) == 8);
+
 #undef RIDGE_FIELD
 #undef RIDGE_HOLDS
 #undef RIDGE_ALIGNMENT
@@ -253,12 +274,14 @@ enum ridge_answer {
  *   unit       written: the fresh record, whatever was there
  *   owners     written: all 0
  *   slots      words of owners, 1 to 128
+ *   marks      written: both words 0, whatever they were
  *
  * Answers 0, or 11 for bad bounds or a format that is none; then nothing is
  * changed.
  */
 uint64_t ridge_fresh(uint64_t capacity, uint64_t format,
-                     struct ridge_unit *unit, uint64_t *owners, size_t slots);
+                     struct ridge_unit *unit, uint64_t *owners, size_t slots,
+                     struct ridge_marks *marks);
 
 /*
  * Executes one command on a store.
@@ -266,6 +289,7 @@ uint64_t ridge_fresh(uint64_t capacity, uint64_t format,
  *   format                  the one with which the store was made
  *   unit                    the unit's record
  *   owners, slots           the map, 1 to 128 slots
+ *   marks                   its marks
  *   medium, medium_bytes    the blocks, exactly 512 x slots bytes
  *   nexus                   who sends the command; above 15 is 11
  *   cdb, cdb_bytes          the command descriptor block, read only
@@ -282,12 +306,36 @@ uint64_t ridge_fresh(uint64_t capacity, uint64_t format,
  * Returns the answer number. Status and sense follow from it by the table.
  */
 uint64_t ridge_execute(uint64_t format, struct ridge_unit *unit,
-                       uint64_t *owners, size_t slots, uint8_t *medium,
+                       uint64_t *owners, size_t slots,
+                       struct ridge_marks *marks, uint8_t *medium,
                        size_t medium_bytes, uint64_t nexus,
                        const uint8_t *cdb, size_t cdb_bytes,
                        const uint8_t *data_out, size_t data_out_bytes,
                        uint8_t *data_in, size_t data_in_bytes, uint8_t *sense,
                        size_t sense_bytes, uint64_t *returned);
+
+/*
+ * Tells how many slots of a store are free, and which is the lowest of them:
+ * the slot that the next new block gets. Both are read off the marks. It is no
+ * command: no nexus asks it, no reservation stops it, and what it tells is the
+ * pool's, which a nexus that is shut out from reading may not learn.
+ *
+ *   format, unit, owners,
+ *   slots, marks, medium,
+ *   medium_bytes            the store, as for ridge_execute; nothing of it is
+ *                           written
+ *   free_slots              written on answer 0: how many slots are free
+ *   lowest_free             written on answer 0: the lowest free slot, counted
+ *                           from 0, or the number of slots where none is free
+ *
+ * Answers 0, or 11 for a store that is out of bounds or in no valid state; then
+ * nothing is written.
+ */
+uint64_t ridge_room(uint64_t format, const struct ridge_unit *unit,
+                    const uint64_t *owners, size_t slots,
+                    const struct ridge_marks *marks, const uint8_t *medium,
+                    size_t medium_bytes, uint64_t *free_slots,
+                    uint64_t *lowest_free);
 
 #ifdef __cplusplus
 }

@@ -1,11 +1,15 @@
 /*
  * second.c - a second implementation of the unit, written from the papers
  * alone and independent of the proved library. It follows 01, with requests
- * Q-1 to Q-4, Q-6 and Q-8 of 02; Q-5 changes no answer. The tests run both on
+ * Q-1 to Q-4 and Q-6 to Q-8 of 02; Q-5 changes no answer. The tests run both on
  * the same calls; the speed figures take it as their baseline.
  *
  * Plain C11: no heap, no globals but constant tables. The order of the tests in
  * each function is the papers' order, since the first that fails is the answer.
+ *
+ * Nothing is read off the marks here: what is free, and which slot comes first,
+ * is found by walking over the owners, and the marks are made from the owners
+ * by a walk. Q-7 says that both ways come to the same.
  */
 
 #include "second.h"
@@ -40,6 +44,7 @@ struct call {
     struct ridge_unit *unit;
     uint64_t *owners;
     size_t slots;
+    struct ridge_marks *marks;
     uint8_t *medium;
     uint64_t nexus;
     const uint8_t *cdb;
@@ -188,6 +193,29 @@ static bool valid_map(const uint64_t *owners, size_t slots, uint64_t capacity)
     return true;
 }
 
+/* The marks that go with these owners: slot i is bit i mod 64 of word i / 64.
+   There are no more slots than bits. */
+static struct ridge_marks marks_of(const uint64_t *owners, size_t slots)
+{
+    struct ridge_marks marks = {{0}};
+
+    for (size_t slot = 0; slot < slots; slot++) {
+        if (owners[slot] != 0)
+            marks.words[slot / RIDGE_WORD_SLOTS] |=
+                UINT64_C(1) << slot % RIDGE_WORD_SLOTS;
+    }
+    return marks;
+}
+
+/* All bits of both words count, those of slots that the pool has not too. */
+static bool valid_marks(const struct ridge_marks *marks,
+                        const uint64_t *owners, size_t slots)
+{
+    struct ridge_marks due = marks_of(owners, slots);
+
+    return marks->words[0] == due.words[0] && marks->words[1] == due.words[1];
+}
+
 static bool valid_places(const struct ridge_rights *rights)
 {
     for (size_t place = 0; place < RIDGE_PLACES; place++) {
@@ -248,12 +276,18 @@ static bool valid_format(uint64_t format)
     return format == RIDGE_FIXED || format == RIDGE_DESCRIPTOR;
 }
 
-static bool valid_state(const struct call *call)
+/* What has to hold of a store, whatever is asked of it. The slots are counted
+   before anybody walks over them. */
+static bool valid_store(uint64_t format, const struct ridge_unit *unit,
+                        const uint64_t *owners, size_t slots,
+                        const struct ridge_marks *marks, size_t medium_bytes)
 {
-    return valid_places(&call->unit->rights) &&
-           valid_reservation(&call->unit->rights) &&
-           valid_attentions(call->unit->attentions) &&
-           valid_map(call->owners, call->slots, call->unit->capacity);
+    return valid_format(format) && valid_bounds(unit->capacity, slots) &&
+           medium_bytes == slots * RIDGE_BLOCK_BYTES &&
+           valid_places(&unit->rights) && valid_reservation(&unit->rights) &&
+           valid_attentions(unit->attentions) &&
+           valid_map(owners, slots, unit->capacity) &&
+           valid_marks(marks, owners, slots);
 }
 
 /* ---- Who conflicts ---- */
@@ -379,15 +413,36 @@ static uint64_t read_blocks(struct call *call, bool sixteen)
     return RIDGE_GOOD;
 }
 
-static size_t free_slots(const struct call *call)
+static size_t count_free(const uint64_t *owners, size_t slots)
 {
     size_t count = 0;
 
-    for (size_t slot = 0; slot < call->slots; slot++) {
-        if (call->owners[slot] == 0)
+    for (size_t slot = 0; slot < slots; slot++) {
+        if (owners[slot] == 0)
             count++;
     }
     return count;
+}
+
+/* The number of the slots if none is free. */
+static size_t find_free(const uint64_t *owners, size_t slots)
+{
+    size_t slot = 0;
+
+    while (slot < slots && owners[slot] != 0)
+        slot++;
+    return slot;
+}
+
+static size_t free_slots(const struct call *call)
+{
+    return count_free(call->owners, call->slots);
+}
+
+/* The end of whatever gave slots an owner, or took one away. */
+static void mark_slots(struct call *call)
+{
+    *call->marks = marks_of(call->owners, call->slots);
 }
 
 /* What goes into the blocks of a range: the bytes of the first, and how far
@@ -420,6 +475,7 @@ static void place_blocks(struct call *call, struct range range,
         memcpy(slot_bytes(call, slot), source.bytes + index * source.step,
                RIDGE_BLOCK_BYTES);
     }
+    mark_slots(call);
 }
 
 /* The end of a WRITE and of a WRITE SAME that writes. */
@@ -487,6 +543,7 @@ static void unmap_range(struct call *call, struct range range)
         if (in_range(call->owners[slot], range))
             call->owners[slot] = 0;
     }
+    mark_slots(call);
 }
 
 static uint64_t unmap(struct call *call)
@@ -1402,41 +1459,56 @@ static void write_sense(uint8_t *sense, uint64_t answer,
         fixed_sense(sense, answer, call);
 }
 
-/* ---- The two functions ---- */
+/* ---- The functions ---- */
 
 uint64_t SECOND_NAME(fresh)(uint64_t capacity, uint64_t format,
                             struct ridge_unit *unit, uint64_t *owners,
-                            size_t slots)
+                            size_t slots, struct ridge_marks *marks)
 {
     if (!valid_bounds(capacity, slots) || !valid_format(format))
         return RIDGE_UNUSABLE;
     memset(unit, 0, sizeof *unit);
     memset(owners, 0, slots * sizeof *owners);
+    memset(marks, 0, sizeof *marks);
     unit->capacity = capacity;
     return RIDGE_GOOD;
 }
 
 uint64_t SECOND_NAME(execute)(
     uint64_t format, struct ridge_unit *unit, uint64_t *owners, size_t slots,
-    uint8_t *medium, size_t medium_bytes, uint64_t nexus, const uint8_t *cdb,
-    size_t cdb_bytes, const uint8_t *data_out, size_t data_out_bytes,
-    uint8_t *data_in, size_t data_in_bytes, uint8_t *sense, size_t sense_bytes,
+    struct ridge_marks *marks, uint8_t *medium, size_t medium_bytes,
+    uint64_t nexus, const uint8_t *cdb, size_t cdb_bytes,
+    const uint8_t *data_out, size_t data_out_bytes, uint8_t *data_in,
+    size_t data_in_bytes, uint8_t *sense, size_t sense_bytes,
     uint64_t *returned)
 {
-    struct call call = {format,         unit,    owners,        slots,
-                        medium,         nexus,   cdb,           data_out,
-                        data_out_bytes, data_in, data_in_bytes, returned,
-                        {0, 0},         0,       0};
+    struct call call = {format,   unit,           owners,  slots,
+                        marks,    medium,         nexus,   cdb,
+                        data_out, data_out_bytes, data_in, data_in_bytes,
+                        returned, {0, 0},         0,       0};
     uint64_t answer;
 
     *returned = 0;
-    if (nexus > RIDGE_NEXUS_LAST || cdb_bytes == 0 || !valid_format(format) ||
-        sense_bytes < sense_room(format))
-        return RIDGE_UNUSABLE;
-    if (!valid_bounds(unit->capacity, slots) ||
-        medium_bytes != slots * RIDGE_BLOCK_BYTES || !valid_state(&call))
+    if (nexus > RIDGE_NEXUS_LAST || cdb_bytes == 0 ||
+        sense_bytes < sense_room(format) ||
+        !valid_store(format, unit, owners, slots, marks, medium_bytes))
         return RIDGE_UNUSABLE;
     answer = dispatch(&call, cdb_bytes);
     write_sense(sense, answer, &call);
     return answer;
+}
+
+/* No nexus asks this: neither a reservation nor an attention counts. */
+uint64_t SECOND_NAME(room)(uint64_t format, const struct ridge_unit *unit,
+                           const uint64_t *owners, size_t slots,
+                           const struct ridge_marks *marks,
+                           const uint8_t *medium, size_t medium_bytes,
+                           uint64_t *free_slots, uint64_t *lowest_free)
+{
+    (void)medium;
+    if (!valid_store(format, unit, owners, slots, marks, medium_bytes))
+        return RIDGE_UNUSABLE;
+    *free_slots = count_free(owners, slots);
+    *lowest_free = find_free(owners, slots);
+    return RIDGE_GOOD;
 }

@@ -1,4 +1,4 @@
-/* One command asked of a server (ask.h). */
+/* One command asked of a server, or its room (ask.h). */
 #define _GNU_SOURCE
 #include "ask.h"
 
@@ -61,6 +61,29 @@ enum ask_outcome ask_server(const char *socket_path, struct ask *ask)
     wire_begin(&wire, connection, WIRE_TOOL_SECONDS);
     enum ask_outcome outcome =
         send_request(&wire, ask) ? receive_reply(&wire, ask) : ASK_NOT_SENT;
+    close(connection);
+    return outcome;
+}
+
+static enum ask_outcome exchange_room(struct wire *wire, struct wire_room *room)
+{
+    uint8_t request[WIRE_REQUEST_BYTES], reply[WIRE_ROOM_BYTES];
+    wire_store_room_request(request);
+    if (!wire_send(wire, request, sizeof request))
+        return ASK_NOT_SENT;
+    if (!wire_receive(wire, reply, sizeof reply))
+        return ASK_UNANSWERED;
+    return wire_load_room(reply, room) ? ASK_ANSWERED : ASK_NO_REPLY;
+}
+
+enum ask_outcome ask_room(const char *socket_path, struct wire_room *room)
+{
+    struct wire wire;
+    int connection = ask_connect(socket_path);
+    if (connection < 0)
+        return ASK_NO_SERVER;
+    wire_begin(&wire, connection, WIRE_TOOL_SECONDS);
+    enum ask_outcome outcome = exchange_room(&wire, room);
     close(connection);
     return outcome;
 }

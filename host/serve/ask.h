@@ -1,4 +1,4 @@
-/* One command asked of a server: the tools' side of the wire. */
+/* One command asked of a server, or its room: the tools' side of the wire. */
 #ifndef RIDGE_ASK_H
 #define RIDGE_ASK_H
 
@@ -26,5 +26,8 @@ enum ask_outcome {
 int ask_connect(const char *socket_path);
 
 enum ask_outcome ask_server(const char *socket_path, struct ask *ask);
+
+/* Asking for the room changes nothing, whatever came of it. */
+enum ask_outcome ask_room(const char *socket_path, struct wire_room *room);
 
 #endif

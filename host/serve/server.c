@@ -10,7 +10,8 @@
    of a request; with --until-input-ends also when its standard input closes, so
    that it never outlives the script that started it. It then removes its socket
    and says what it served. It decides nothing: every command goes to the store
-   as it came, and what that leaves goes back.
+   as it came, and what that leaves goes back. Asked for the room (wire.h), it
+   tells what the store tells of it.
 
    Without an image the store is fresh and ends with the server. With one, it is
    the image's store, or a fresh one where the file is not there; what a command
@@ -35,6 +36,9 @@
 #include "wire.h"
 
 enum { CAPACITY_UNLESS_NAMED = 1024, SLOTS_UNLESS_NAMED = 128, SHOWN_BYTES = 32 };
+
+_Static_assert((int)RIDGE_SLOTS <= (int)WIRE_SLOTS_MOST,
+               "the wire holds the room of every pool");
 
 static struct options options;
 static struct store store, before;
@@ -105,11 +109,22 @@ static void tell_counts(void)
            counts.changes, counts.broken_off);
 }
 
-static void tell_ready(int was_there)
+static void tell_room(const struct wire_room *room)
 {
-    printf("ready: %llu blocks, %zu slots of which %zu are used, %s sense; ",
+    if (options.verbose == 0)
+        return;
+    if (room->answer == RIDGE_GOOD)
+        printf("room: %u of %u slots free\n", room->free_slots, room->slots);
+    else
+        printf("room: %u, %s\n", room->answer, name_of_answer(room->answer));
+}
+
+static void tell_ready(int was_there, const struct store_room *room)
+{
+    printf("ready: %llu blocks, %zu slots of which %llu are free, %s sense; ",
            (unsigned long long)store_capacity(&store), store_slots(&store),
-           store_slots_used(&store), name_of_format(store_format(&store)));
+           (unsigned long long)room->free_slots,
+           name_of_format(store_format(&store)));
     if (options.image == NULL)
         printf("a fresh store that ends with this server\n");
     else
@@ -146,12 +161,11 @@ static int send_reply(struct wire *wire, const struct store_call *call,
            wire_send(wire, data_in, reply.returned);
 }
 
-static int receive_call(struct wire *wire, struct store_call *call)
+static int receive_call(struct wire *wire, const uint8_t *head,
+                        struct store_call *call)
 {
-    uint8_t head[WIRE_REQUEST_BYTES];
     struct wire_request request;
-    if (!wire_receive(wire, head, sizeof head) ||
-        !wire_load_request(head, &request) ||
+    if (!wire_load_request(head, &request) ||
         !wire_receive(wire, cdb, request.cdb_bytes) ||
         !wire_receive(wire, data_out, request.data_out_bytes))
         return 0;
@@ -166,25 +180,54 @@ static int receive_call(struct wire *wire, struct store_call *call)
     return 1;
 }
 
-static void serve(int connection)
+/* Gives 0 exactly if the request was broken off. */
+static int serve_call(struct wire *wire, const uint8_t *head)
 {
-    struct wire wire;
     struct store_call call;
-    wire_begin(&wire, connection, WIRE_SERVER_SECONDS);
-    wire.while_waiting = &while_waiting;
-    wire.ended = &told_to_end;
-    if (!receive_call(&wire, &call)) {
-        counts.broken_off += wire.moved > 0;
-        return;
-    }
+    if (!receive_call(wire, head, &call))
+        return 0;
     before = store;
     uint64_t answer = store_execute(&store, &call);
     if (!keep())
-        return;
+        return 1;
     counts.commands++;
     counts.good += answer == RIDGE_GOOD;
-    counts.broken_off += !send_reply(&wire, &call, answer);
+    int sent = send_reply(wire, &call, answer);
     tell(&call, answer);
+    return sent;
+}
+
+/* ---- the room ---- */
+
+/* The same. The store stays as it is, so there is nothing to keep. */
+static int serve_room(struct wire *wire)
+{
+    uint8_t reply[WIRE_ROOM_BYTES];
+    struct store_room found = {0, 0};
+    struct wire_room room = {.answer = (uint32_t)store_room(&store, &found),
+                             .slots = (uint32_t)store_slots(&store)};
+    room.free_slots = (uint32_t)found.free_slots;
+    room.lowest_free = (uint32_t)found.lowest_free;
+    wire_store_room(reply, &room);
+    int sent = wire_send(wire, reply, sizeof reply);
+    tell_room(&room);
+    return sent;
+}
+
+/* ---- one request ---- */
+
+/* One who connects and asks nothing is not counted. */
+static void serve(int connection)
+{
+    struct wire wire;
+    uint8_t head[WIRE_REQUEST_BYTES];
+    wire_begin(&wire, connection, WIRE_SERVER_SECONDS);
+    wire.while_waiting = &while_waiting;
+    wire.ended = &told_to_end;
+    int whole = wire_receive(&wire, head, sizeof head) &&
+                (wire_is_room_request(head) ? serve_room(&wire)
+                                            : serve_call(&wire, head));
+    counts.broken_off += !whole && wire.moved > 0;
 }
 
 /* ---- the loop ---- */
@@ -341,10 +384,13 @@ static int load_or_make(int *was_there)
 
 static int serve_store(int was_there)
 {
+    struct store_room room;
+    if (store_room(&store, &room) != RIDGE_GOOD)
+        return fail("the store", "it is not in a valid state");
     int listener = listen_there();
     if (listener < 0)
         return 0;
-    tell_ready(was_there);
+    tell_ready(was_there, &room);
     serve_until_told(listener);
     unlink(options.socket);
     lock_let_go(&socket_lock);

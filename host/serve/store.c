@@ -14,6 +14,10 @@
      192-    the owners, 8 bytes a slot
              the medium, 512 bytes a slot
 
+   The marks stand in no layout. They are determined by the owners, so they are
+   made of them when a store is read: no file can have others, and the library
+   tests them with the rest.
+
    Layout 2, which servers wrote when there were no attentions, is the same
    without bytes 176-191: nothing waits in its store. Layout 1, of when sense had
    one format, is layout 2 without bytes 8-15: its store has fixed sense. */
@@ -60,7 +64,7 @@ int store_fresh(struct store *store, uint64_t capacity, uint64_t format,
     store->format = format;
     store->slots = (size_t)slots;
     return ridge_fresh(capacity, format, &store->unit, store->owners,
-                       store->slots) == RIDGE_GOOD;
+                       store->slots, &store->marks) == RIDGE_GOOD;
 }
 
 /* Descriptor sense says its own length; it is held to the room, whatever it
@@ -87,12 +91,20 @@ uint64_t store_execute(struct store *store, struct store_call *call)
 {
     uint64_t answer = ridge_execute(
         store->format, &store->unit, store->owners, store->slots,
-        store->medium, store->slots * RIDGE_BLOCK_BYTES, call->nexus,
-        call->cdb, call->cdb_bytes, call->data_out, call->data_out_bytes,
-        call->data_in, call->data_in_bytes, call->sense, sizeof call->sense,
-        &call->returned);
+        &store->marks, store->medium, store->slots * RIDGE_BLOCK_BYTES,
+        call->nexus, call->cdb, call->cdb_bytes, call->data_out,
+        call->data_out_bytes, call->data_in, call->data_in_bytes, call->sense,
+        sizeof call->sense, &call->returned);
     call->sense_bytes = sense_bytes(store, call->sense, answer);
     return answer;
+}
+
+uint64_t store_room(const struct store *store, struct store_room *room)
+{
+    return ridge_room(store->format, &store->unit, store->owners, store->slots,
+                      &store->marks, store->medium,
+                      store->slots * RIDGE_BLOCK_BYTES, &room->free_slots,
+                      &room->lowest_free);
 }
 
 uint64_t store_capacity(const struct store *store)
@@ -110,19 +122,12 @@ size_t store_slots(const struct store *store)
     return store->slots;
 }
 
-size_t store_slots_used(const struct store *store)
-{
-    size_t used = 0;
-    for (size_t slot = 0; slot < store->slots; slot++)
-        used += store->owners[slot] != 0;
-    return used;
-}
-
-/* The record has no padding, so that its bytes are its fields. */
+/* Record and marks have no padding, so that their bytes are their fields. */
 int store_same(const struct store *one, const struct store *other)
 {
     return one->format == other->format && one->slots == other->slots &&
            memcmp(&one->unit, &other->unit, sizeof one->unit) == 0 &&
+           memcmp(&one->marks, &other->marks, sizeof one->marks) == 0 &&
            memcmp(one->owners, other->owners,
                   one->slots * sizeof one->owners[0]) == 0 &&
            memcmp(one->medium, other->medium,
@@ -210,16 +215,22 @@ size_t store_pack(const struct store *store, uint8_t *bytes)
     return packed_bytes(STORE_LAYOUT, store->slots);
 }
 
-/* Every command tests the whole state first. INQUIRY of no byte changes
-   nothing and passes on every usable store, so it is the library itself that
-   says whether this is one. */
-static int is_usable(struct store *store)
+/* A mark for each slot that has an owner, and no other. */
+static void mark_owners(struct store *store)
 {
-    static const uint8_t inquiry[6] = {0x12};
-    uint8_t none[1];
-    struct store_call call = {.cdb = inquiry, .cdb_bytes = sizeof inquiry,
-                              .data_out = none, .data_in = none};
-    return store_execute(store, &call) == RIDGE_GOOD;
+    memset(&store->marks, 0, sizeof store->marks);
+    for (size_t slot = 0; slot < store->slots; slot++)
+        if (store->owners[slot] != 0)
+            store->marks.words[slot / RIDGE_WORD_SLOTS] |=
+                UINT64_C(1) << slot % RIDGE_WORD_SLOTS;
+}
+
+/* The room is told of a store in a valid state alone, so it is the library
+   itself that says whether this is one. */
+static int is_usable(const struct store *store)
+{
+    struct store_room room;
+    return store_room(store, &room) == RIDGE_GOOD;
 }
 
 /* Gives NULL, or why the head's format is none. */
@@ -259,5 +270,6 @@ const char *store_unpack(struct store *store, uint32_t layout,
     at = take_numbers(at + attention_bytes(layout), store->owners,
                       store->slots);
     memcpy(store->medium, at, store->slots * RIDGE_BLOCK_BYTES);
+    mark_owners(store);
     return is_usable(store) ? NULL : "its store is not in a valid state";
 }

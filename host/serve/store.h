@@ -26,6 +26,7 @@ struct store {
     uint64_t format; /* of its sense, enum ridge_format */
     struct ridge_unit unit;
     uint64_t owners[RIDGE_SLOTS];
+    struct ridge_marks marks;
     uint8_t medium[RIDGE_SLOTS * RIDGE_BLOCK_BYTES];
     size_t slots;
 };
@@ -49,10 +50,19 @@ int store_fresh(struct store *store, uint64_t capacity, uint64_t format,
 /* Gives the answer number. */
 uint64_t store_execute(struct store *store, struct store_call *call);
 
+/* How many slots are free, and which is the lowest of them: that of the next new
+   block, or the number of slots where none is free. */
+struct store_room {
+    uint64_t free_slots, lowest_free;
+};
+
+/* Gives the answer number; the room is told on GOOD alone. It is the library
+   that tells, so another answer says that the store is not in a valid state. */
+uint64_t store_room(const struct store *store, struct store_room *room);
+
 uint64_t store_capacity(const struct store *store);
 uint64_t store_format(const struct store *store);
 size_t store_slots(const struct store *store);
-size_t store_slots_used(const struct store *store);
 int store_same(const struct store *one, const struct store *other);
 
 /* Writes the store, at most STORE_BYTES_MOST bytes; gives how many. */

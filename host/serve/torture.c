@@ -8,10 +8,12 @@
    random time, often in the middle of one, sometimes while it starts. A copy of
    the store is kept here by the same library. Every answer must be the copy's.
    After the kill the image must be a whole one, and its store exactly the copy,
-   or the copy after the one command that was sent and not answered. The next
-   server must then answer from that store, and tell each nexus what waits for
-   it, once. The store has descriptor sense, which no server falls back to: one
-   that forgets the format shows.
+   or the copy after the one command that was sent and not answered: marks too,
+   which the copy has as the library keeps them, and the image's store as its
+   owners have them. The next server must then answer from that store, tell each
+   nexus what waits for it, once, and tell its room, whenever it is asked. The
+   store has descriptor sense, which no server falls back to: one that forgets the
+   format shows. It has slots in both words of the marks.
 
    Prints what was killed when; ends with 0 exactly if all was as it must be. */
 #define _GNU_SOURCE
@@ -33,8 +35,8 @@
 #include "store.h"
 
 enum {
-    CAPACITY = 64,
-    SLOTS = 48,
+    CAPACITY = 96,
+    SLOTS = 72,
     WORDS_MOST = 64,
     BLOCKS_MOST = 16,
     NEXUSES = 4,
@@ -47,8 +49,8 @@ enum {
 enum outcome { ANSWERED, NOT_SENT, UNANSWERED };
 
 static struct {
-    unsigned long answered, changes, told, done, not_done, unchanging, between,
-        starting;
+    unsigned long answered, changes, told, rooms, full, done, not_done,
+        unchanging, between, starting;
 } counts;
 
 static char image_path[PATH_MAX], socket_path[PATH_MAX], log_path[PATH_MAX];
@@ -207,6 +209,17 @@ static void hold_to_copy(const struct store_call *asked, const struct ask *ask)
     counts.told += answer == RIDGE_ATTENTION;
 }
 
+static enum outcome outcome_of(enum ask_outcome asked)
+{
+    if (asked == ASK_NO_REPLY)
+        fail("a reply that is none", "");
+    if (asked != ASK_ANSWERED && !killed)
+        fail("something was not answered, and nobody killed the server", "");
+    if (asked == ASK_ANSWERED)
+        return ANSWERED;
+    return asked == ASK_UNANSWERED ? UNANSWERED : NOT_SENT;
+}
+
 /* Leaves in `after` what the copy is if the command was done. */
 static enum outcome ask_it(const struct store_call *call)
 {
@@ -219,16 +232,27 @@ static enum outcome ask_it(const struct store_call *call)
         .cdb = call->cdb, .data_out = call->data_out, .data_in = heard};
     after = copy;
     store_execute(&after, &same);
-    enum ask_outcome outcome = ask_server(socket_path, &ask);
-    if (outcome == ASK_NO_REPLY)
-        fail("a reply that is none", "");
-    if (outcome != ASK_ANSWERED && !killed)
-        fail("a command was not answered, and nobody killed the server", "");
-    if (outcome == ASK_ANSWERED) {
+    enum outcome outcome = outcome_of(ask_server(socket_path, &ask));
+    if (outcome == ANSWERED)
         hold_to_copy(call, &ask);
-        return ANSWERED;
-    }
-    return outcome == ASK_UNANSWERED ? UNANSWERED : NOT_SENT;
+    return outcome;
+}
+
+/* The room must be the copy's. */
+static enum outcome ask_for_room(void)
+{
+    struct store_room room;
+    struct wire_room told;
+    after = copy;
+    enum outcome outcome = outcome_of(ask_room(socket_path, &told));
+    if (outcome != ANSWERED)
+        return outcome;
+    if (store_room(&copy, &room) != told.answer || told.slots != SLOTS ||
+        room.free_slots != told.free_slots || room.lowest_free != told.lowest_free)
+        fail("an answer that is not the store's room", "");
+    counts.rooms++;
+    counts.full += told.free_slots == 0;
+    return ANSWERED;
 }
 
 /* ---- the commands ---- */
@@ -375,23 +399,32 @@ static void look_at_image(enum outcome outcome)
     copy = found;
 }
 
-/* Asks until the kill; gives what became of the last command. */
+/* As a gateway does, which asks for the room before some of its commands. */
+static enum outcome ask_something(void)
+{
+    if (chance(8) == 0)
+        return ask_for_room();
+    struct store_call call = random_call();
+    return ask_it(&call);
+}
+
+/* Asks until the kill; gives what became of the last request. */
 static enum outcome load_until_killed(void)
 {
     enum outcome outcome;
     double began = now();
     unsigned long asked = 0;
     do {
-        struct store_call call = random_call();
-        outcome = ask_it(&call);
+        outcome = ask_something();
         asked++;
     } while (outcome == ANSWERED);
     seconds_a_call = 0.9 * seconds_a_call + 0.1 * (now() - began) / (double)asked;
     return outcome;
 }
 
-/* What the whole store can tell: what waits for each nexus, which is told in
-   place of anything else and therefore first; keys, reservation, blocks, map. */
+/* What the whole store can tell by commands: what waits for each nexus, which is
+   told in place of anything else and therefore first; keys, reservation, blocks,
+   map. */
 static struct store_call probe_call(unsigned which)
 {
     if (which < NEXUSES)
@@ -415,7 +448,7 @@ static enum outcome probe(void)
         if (outcome != ANSWERED)
             return outcome;
     }
-    return ANSWERED;
+    return ask_for_room();
 }
 
 static void round_of_killing(void)
@@ -485,13 +518,14 @@ static void set_words(char **words)
 
 static void tell(unsigned long rounds)
 {
-    printf("%lu kills: %lu with a command in flight (%lu found done, %lu not done, "
-           "%lu that change nothing), %lu between commands, %lu while starting; "
+    printf("%lu kills: %lu with a request in flight (%lu found done, %lu not done, "
+           "%lu that change nothing), %lu between requests, %lu while starting; "
            "%lu commands answered, %lu of them changed the store, and every one "
-           "is there; %lu told of an attention\n", rounds,
+           "is there; %lu told of an attention; room told %lu times, and %lu times "
+           "there was none\n", rounds,
            counts.done + counts.not_done + counts.unchanging, counts.done,
            counts.not_done, counts.unchanging, counts.between, counts.starting,
-           counts.answered, counts.changes, counts.told);
+           counts.answered, counts.changes, counts.told, counts.rooms, counts.full);
 }
 
 int main(int count, char **words)

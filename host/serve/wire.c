@@ -10,6 +10,8 @@
 
 static const uint8_t request_kind[4] = {'R', 'D', 'G', 'Q'};
 static const uint8_t reply_kind[4] = {'R', 'D', 'G', 'A'};
+static const uint8_t room_request_kind[4] = {'R', 'D', 'G', 'R'};
+static const uint8_t room_kind[4] = {'R', 'D', 'G', 'F'};
 
 void wire_begin(struct wire *wire, int connection, int seconds)
 {
@@ -140,6 +142,49 @@ int wire_load_reply(const uint8_t *head, struct wire_reply *reply)
     return has_kind(head, reply_kind) &&
            reply->sense_bytes <= WIRE_SENSE_MOST &&
            reply->returned <= WIRE_DATA_MOST;
+}
+
+void wire_store_room_request(uint8_t *head)
+{
+    memset(head, 0, WIRE_REQUEST_BYTES);
+    store_kind(head, room_request_kind);
+}
+
+int wire_is_room_request(const uint8_t *head)
+{
+    uint8_t only[WIRE_REQUEST_BYTES];
+    wire_store_room_request(only);
+    return memcmp(head, only, sizeof only) == 0;
+}
+
+void wire_store_room(uint8_t *head, const struct wire_room *room)
+{
+    store_kind(head, room_kind);
+    put_number(head + 8, room->answer, 4);
+    put_number(head + 12, room->slots, 4);
+    put_number(head + 16, room->free_slots, 4);
+    put_number(head + 20, room->lowest_free, 4);
+}
+
+/* The free slots are the lowest one and some above it. */
+static int is_possible(const struct wire_room *room)
+{
+    if (room->slots < 1 || room->slots > WIRE_SLOTS_MOST)
+        return 0;
+    if (room->answer != 0)
+        return room->free_slots == 0 && room->lowest_free == 0;
+    return room->lowest_free <= room->slots &&
+           room->free_slots <= room->slots - room->lowest_free &&
+           (room->free_slots == 0) == (room->lowest_free == room->slots);
+}
+
+int wire_load_room(const uint8_t *head, struct wire_room *room)
+{
+    room->answer = (uint32_t)number_at(head + 8, 4);
+    room->slots = (uint32_t)number_at(head + 12, 4);
+    room->free_slots = (uint32_t)number_at(head + 16, 4);
+    room->lowest_free = (uint32_t)number_at(head + 20, 4);
+    return has_kind(head, room_kind) && is_possible(room);
 }
 
 int wire_address(struct sockaddr_un *address, const char *path)

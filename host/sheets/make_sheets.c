@@ -227,8 +227,8 @@ static void execute(struct store *store, const struct request *request)
 
     answers[second_execute(
         store->format, &store->unit, store->owners, store->slots,
-        store->medium, store->slots * RIDGE_BLOCK_BYTES, request->nexus,
-        request->cdb, request->cdb_bytes, request->data_out,
+        &store->marks, store->medium, store->slots * RIDGE_BLOCK_BYTES,
+        request->nexus, request->cdb, request->cdb_bytes, request->data_out,
         request->data_out_bytes, data_in, sizeof data_in, sense, sizeof sense,
         &returned)]++;
 }
@@ -248,7 +248,7 @@ static void make_history(struct random *random, struct sheet *sheet)
     store.format = RIDGE_FIXED;
     store.slots = BENCH_SLOTS;
     second_fresh(BENCH_CAPACITY, store.format, &store.unit, store.owners,
-                 store.slots);
+                 store.slots, &store.marks);
     for (size_t index = 0; index < calls; index++) {
         if (!make_opening_call(opening, index, &request))
             make_call(random, &store, &request);

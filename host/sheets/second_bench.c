@@ -70,6 +70,7 @@ void second_bench(const uint8_t *sheet, size_t bytes, FILE *out)
     static struct call calls[SHEET_CALLS];
     struct ridge_unit unit = {0};
     uint64_t owners[BENCH_SLOTS] = {0};
+    struct ridge_marks marks = {{0}};
     uint8_t medium[BENCH_SLOTS * RIDGE_BLOCK_BYTES] = {0};
 
     if (!find_calls(sheet, bytes, calls)) {
@@ -77,17 +78,18 @@ void second_bench(const uint8_t *sheet, size_t bytes, FILE *out)
         return;
     }
     fputs("call,answer,status,sense,length,data\n", out);
-    second_fresh(BENCH_CAPACITY, RIDGE_FIXED, &unit, owners, BENCH_SLOTS);
+    second_fresh(BENCH_CAPACITY, RIDGE_FIXED, &unit, owners, BENCH_SLOTS,
+                 &marks);
     for (size_t index = 0; index < sheet[0]; index++) {
         const struct call *call = &calls[index];
         uint8_t data_in[BENCH_DATA_IN] = {0};
         uint8_t sense[18] = {0};
         uint64_t returned = 0;
         uint64_t answer = second_execute(
-            RIDGE_FIXED, &unit, owners, BENCH_SLOTS, medium, sizeof medium,
-            call->nexus, call->cdb, call->cdb_bytes, call->data_out,
-            call->data_out_bytes, data_in, sizeof data_in, sense, sizeof sense,
-            &returned);
+            RIDGE_FIXED, &unit, owners, BENCH_SLOTS, &marks, medium,
+            sizeof medium, call->nexus, call->cdb, call->cdb_bytes,
+            call->data_out, call->data_out_bytes, data_in, sizeof data_in,
+            sense, sizeof sense, &returned);
 
         print_line(out, index + 1, answer, returned, data_in, sense);
     }

@@ -9,18 +9,20 @@
  * seed gives the same calls on every machine.
  *
  * The two stores of a pair have the same format of sense, equal capacity,
- * registrations, reservation, generation and attentions; slots, maps and blocks
- * differ. Both get the same reservation-out calls (operation code 5Fh), the
- * same calls by nexuses then shut out and the same calls by nexuses for which
- * then an attention waits, in the same order with the same lent data and sense
- * buffers, the whole pool lent each time. Between these, each gets other calls
- * of its own.
+ * registrations, reservation, generation and attentions; slots, maps, with them
+ * the marks, and blocks differ. Both get the same reservation-out calls
+ * (operation code 5Fh), the same calls by nexuses then shut out and the same
+ * calls by nexuses for which then an attention waits, in the same order with
+ * the same lent data and sense buffers, the whole pool lent each time. Between
+ * these, each gets other calls of its own, and is asked for its room, which is
+ * no call of a nexus.
  *
  * Then each of the common calls gives the same answer, returned count, data-in
  * and sense in both, to the last byte, so the place of a wrong field too, and
- * leaves equal records; none changes a block or a mapping. A call by a nexus
- * for which an attention waits changes that one at most, and no other call that
- * is not a reservation-out call changes anything of the record.
+ * leaves equal records; none changes a block, a mapping or a mark. A call by a
+ * nexus for which an attention waits changes that one at most, and no other
+ * call that is not a reservation-out call changes anything of the record. To
+ * ask for room changes nothing, and tells what a walk over the owners tells.
  *
  * Exit status: 0 all held and enough was compared; 1 something did not hold,
  * which is printed; 2 too little compared (asked of long runs alone), or bad
@@ -83,6 +85,10 @@ struct figures {
     uint64_t other_calls;
     uint64_t other_good_writes;
     uint64_t other_good_same; /* of these, by WRITE SAME */
+    uint64_t rooms;           /* asked for, on one store alone */
+    uint64_t full_rooms;      /* of these, where none is free */
+    uint64_t second_words;    /* common calls that find marks in the second */
+    uint64_t marks_apart;     /* and that find other marks in either store */
     uint64_t shut_out_codes[256];
     uint64_t shut_out_status; /* GET LBA STATUS, which shares its code */
     uint64_t shut_out_pages[256]; /* told by INQUIRY, or not listed */
@@ -125,7 +131,7 @@ static void print_side(const char *name, const struct side *side)
     printf("%s: answer %" PRIu64 ", returned %" PRIu64 "\n", name,
            side->answer, side->returned);
     console_store(side->store.format, &side->before.unit, side->before.owners,
-                  side->store.slots);
+                  side->store.slots, &side->before.marks);
 }
 
 static void fail(const struct run *run, const char *what)
@@ -165,6 +171,17 @@ static bool page_answered(const struct request *request, uint64_t answer)
            (request->cdb[1] & 0x01) != 0 && answer == due;
 }
 
+static void keep_before(struct side *side)
+{
+    const struct store *store = &side->store;
+
+    side->before.unit = store->unit;
+    side->before.marks = store->marks;
+    memcpy(side->before.owners, store->owners, sizeof store->owners);
+    memcpy(side->before.medium, store->medium,
+           store->slots * RIDGE_BLOCK_BYTES);
+}
+
 static void execute(struct run *run, struct side *side)
 {
     const struct request *request = &run->request;
@@ -172,14 +189,11 @@ static void execute(struct run *run, struct side *side)
 
     memcpy(side->data_in, run->data_in, request->data_in_bytes);
     memcpy(side->sense, run->sense, sizeof side->sense);
-    side->before.unit = store->unit;
-    memcpy(side->before.owners, store->owners, sizeof store->owners);
-    memcpy(side->before.medium, store->medium,
-           store->slots * RIDGE_BLOCK_BYTES);
+    keep_before(side);
     side->answer = ridge_execute(
         store->format, &store->unit, store->owners, store->slots,
-        store->medium, store->slots * RIDGE_BLOCK_BYTES, request->nexus,
-        request->cdb, request->cdb_bytes, request->data_out,
+        &store->marks, store->medium, store->slots * RIDGE_BLOCK_BYTES,
+        request->nexus, request->cdb, request->cdb_bytes, request->data_out,
         request->data_out_bytes, side->data_in, request->data_in_bytes,
         side->sense, request->sense_bytes, &side->returned);
 }
@@ -188,6 +202,7 @@ static bool map_kept(const struct side *side)
 {
     return memcmp(side->before.owners, side->store.owners,
                   sizeof side->store.owners) == 0 &&
+           same_marks(&side->before.marks, &side->store.marks) &&
            memcmp(side->before.medium, side->store.medium,
                   side->store.slots * RIDGE_BLOCK_BYTES) == 0;
 }
@@ -226,7 +241,11 @@ static void count_common(struct run *run)
     bool fixed = side->store.format == RIDGE_FIXED;
     size_t format = fixed ? 0 : 1;
     const uint8_t *place = side->sense + (fixed ? 15 : 12);
+    const struct ridge_marks *marks = &side->before.marks;
 
+    run->figures.second_words += marks->words[1] != 0 ? 1 : 0;
+    run->figures.marks_apart +=
+        same_marks(marks, &run->right.before.marks) ? 0 : 1;
     run->figures.compared[format][side->answer & 15]++;
     if (side->answer != RIDGE_CDB_FIELD && side->answer != RIDGE_LIST_FIELD)
         return;
@@ -246,7 +265,7 @@ static void hold_stored(struct run *run)
     if (!same_unit(&left->store.unit, &right->store.unit))
         fail(run, "the records of the two runs differ");
     if (!map_kept(left) || !map_kept(right))
-        fail(run, "a block or a mapping has changed");
+        fail(run, "a block, a mapping or a mark has changed");
     if (is_waiting(&left->before.unit, nexus)) {
         if (!others_kept(left, nexus) || !others_kept(right, nexus))
             fail(run, "more has changed than what waited for the sender");
@@ -416,17 +435,57 @@ static void waiting_call(struct run *run)
     count_waiting(run);
 }
 
+/* Room, asked for on one store alone. */
+static void ask_room(struct run *run, struct side *side)
+{
+    const struct store *store = &side->store;
+    uint64_t free_slots = 0;
+    uint64_t lowest_free = 0;
+    uint64_t free_walked = 0;
+    uint64_t lowest_walked = store->slots;
+
+    keep_before(side);
+    side->answer = ridge_room(store->format, &store->unit, store->owners,
+                              store->slots, &store->marks, store->medium,
+                              store->slots * RIDGE_BLOCK_BYTES, &free_slots,
+                              &lowest_free);
+    for (size_t slot = store->slots; slot-- > 0;) {
+        if (store->owners[slot] == 0) {
+            free_walked++;
+            lowest_walked = slot;
+        }
+    }
+    if (!map_kept(side) || !unit_kept(side))
+        fail(run, "to ask for room has changed something");
+    if (side->answer != RIDGE_GOOD || free_slots != free_walked ||
+        lowest_free != lowest_walked)
+        fail(run, "room is not what a walk over the owners tells");
+    run->figures.rooms++;
+    run->figures.full_rooms += free_slots == 0 ? 1 : 0;
+}
+
+/* Any call, or one that takes or frees slots. */
+static void make_other(struct run *run, const struct store *store)
+{
+    uint64_t nexus = generate_nexus(&run->random, &store->unit.rights);
+
+    if (random_percent(&run->random, 15))
+        generate_room(&run->random, store, &run->request);
+    else
+        generate_request(&run->random, store, nexus, &run->request);
+}
+
 /* A call on one store alone, by a nexus that is not shut out and for which
    nothing waits. */
 static void other_call(struct run *run, struct side *side)
 {
-    const struct ridge_rights *rights = &side->store.unit.rights;
-    uint64_t nexus = generate_nexus(&run->random, rights);
+    const struct ridge_unit *unit = &side->store.unit;
 
-    if (is_shut_out(rights, nexus) || is_waiting(&side->store.unit, nexus))
-        return;
-    generate_request(&run->random, &side->store, nexus, &run->request);
-    if (is_reserve_out(&run->request))
+    if (random_percent(&run->random, 30))
+        ask_room(run, side);
+    make_other(run, &side->store);
+    if (is_shut_out(&unit->rights, run->request.nexus) ||
+        is_waiting(unit, run->request.nexus) || is_reserve_out(&run->request))
         return;
     random_fill(&run->random, run->data_in, run->request.data_in_bytes);
     execute(run, side);
@@ -643,6 +702,14 @@ static bool print_figures(const struct figures *figures)
     enough &= print_waiting(figures, steps);
     enough &= print_places(figures, steps);
     enough &= print_compared(figures, steps);
+    enough &= print_count("common calls on other marks in either store",
+                          figures->marks_apart, steps / 10);
+    enough &= print_count("common calls on marks in the second word",
+                          figures->second_words, steps / 50);
+    enough &= print_count("room asked for between", figures->rooms,
+                          steps / 20);
+    enough &= print_count("of these where none is free", figures->full_rooms,
+                          steps / 500);
     enough &= print_count("other calls between", figures->other_calls,
                           steps / 10);
     enough &= print_count("of these changed a map or block",

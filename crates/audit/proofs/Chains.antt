@@ -5,10 +5,10 @@ use mathlib.Core.Path.{_≡_, refl, sym, ap, _∙_}
 use mathlib.Core.Bool.{true, false}
 use mathlib.Core.List.{List}
 use mathlib.Core.Logic.{_≢_}
-use Prim.Native.Nat.{ℕ, _+_, _-_, _<_, _≤_}
+use Prim.Native.Nat.{ℕ, zero, suc, _+_, _-_, _<_, _≤_}
 use native.Mathlib.Omega.{arith}
 use lib.Dec.{T, T-not, ltb, ltb→lt, nltb→le}
-use lib.ListN.{length, getD, take, set, replicate, length-set, length-replicate, getD-replicate}
+use lib.ListN.{length, getD, take, set, replicate, length-set, length-replicate, getD-replicate, List·getD-eq-default}
 use lib.Seq.{getD-take, length-take-le, getD-set-same, getD-set-other}
 use borrow.Author.Count.{below-more}
 use Rattle.fields.proofs.Tests.{test, by-equal, true→T, false→T, T-true, T-false}
@@ -213,3 +213,10 @@ module _ {capacity : ℕ} {xs : List ℕ} where
 
             earlier′ : List ℕ
             earlier′ = set earlier i (getD last bucket 0)
+
+  -- past the last slot
+  pub passed-past : {last earlier : List ℕ} {i : ℕ} → Passed capacity xs last earlier i → length xs ≤ i → (n : ℕ) → Passed capacity xs last earlier (i + n)
+  passed-past {last} {earlier} {i} p e zero = let s : i + zero ≡ i = omega arith in rw s p
+  passed-past {last} {earlier} {i} p e (suc n) =
+      let s : i + suc n ≡ i + n + 1 = omega arith in
+      rw s (passed-free (passed-past p e n) (List·getD-eq-default xs 0 (omega arith)))

@@ -80,26 +80,26 @@ module _ (capacity x n : ℕ) (p : Pool) (out : List ℕ) where
         settles-refused _ Short _ p
         (row-pass (outOfRange _) _ _ h ∙ row-stop Short _ _ (lt-ltb (length out) (512 * n) k)) tt
 
-    module _ (k : 512 * n ≤ length out) (done : Bool) (owners medium : List ℕ) (w : written done owners medium ≡ tryWrite p x n out) where
+    module _ (k : 512 * n ≤ length out) (done : Bool) (owners marks medium : List ℕ) (w : written done owners marks medium ≡ tryWrite p x n out) where
       had-room : done ≡ roomFor (p .owners) x n
       unfolding tryWrite
       had-room = ap (λ (v : Written). v .done) w
 
-      became : (b : Bool) → done ≡ b → pool owners medium ≡ cond b (writeBlocks p x n out) p
+      became : (b : Bool) → done ≡ b → pool owners marks medium ≡ cond b (writeBlocks p x n out) p
       unfolding tryWrite
       became b e = ap (λ (v : Written). v .after) w ∙ rw (← ap (λ (v : Written). v .done) w, e)
 
-      pub write-done : done ≡ true → leaving Good (pool owners medium) ≡ writes capacity p x n out
+      pub write-done : done ≡ true → leaving Good (pool owners marks medium) ≡ writes capacity p x n out
       unfolding writeRows pastEnd
       write-done e =
-          settles-done _ _ p (pool owners medium)
+          settles-done _ _ p (pool owners marks medium)
           (row-pass (outOfRange _) _ _ h
           ∙ row-pass Short _ _ (le-ltb (length out) (512 * n) k)
           ∙ row-pass (noRoom _) _ _ (ap not (sym had-room ∙ e))
           ∙ row-end)
           (became true e)
 
-      pub write-full : (a : Answer) → a ≡ noRoom x → done ≡ false → leaving a (pool owners medium) ≡ writes capacity p x n out
+      pub write-full : (a : Answer) → a ≡ noRoom x → done ≡ false → leaving a (pool owners marks medium) ≡ writes capacity p x n out
       unfolding writeRows pastEnd refuses
       write-full a g e =
           rw (g, became false e)

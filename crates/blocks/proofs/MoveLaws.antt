@@ -11,6 +11,7 @@ use Rattle.answers.specs.declared.Answer.the-variants.{Good, Refused, Conflict,
 use Rattle.answers.specs.Order.{first, ifGood, ifGoodBy, refuses}
 use Rattle.answers.proofs.OrderLaws.{if-same}
 use Rattle.pool.specs.Bounds.{mostTransfer}
+use Rattle.pool.specs.Marks.{marksOf}
 use Rattle.pool.specs.Pool.{Pool, pool}
 use Rattle.forms.specs.declared.Move.{Move}
 use Rattle.forms.specs.declared.Move.the-variants.{Read, Write, WriteSame, Unmap, Status}
@@ -63,31 +64,35 @@ settling {A} whole a r done kept after dataIn e =
 
 -- ---- each command
 
-module _ (m : Move) (q : Request) (capacity : ℕ) (owners medium out in′ : List ℕ) where
-  pub read-moves : (v : Replied) → m ≡ Read → v ≡ reads capacity (pool owners medium) (q .address .0) (q .size) in′
-      → moving v owners medium ≡ moves m q capacity (pool owners medium) out in′
-  unfolding moves moveRows moved fetched
-  read-moves v e h = rw e (replying _ _ in′ (pool owners medium) v h)
+module _ (m : Move) (q : Request) (capacity : ℕ) (owners marks medium out in′ : List ℕ) where
+  before : Pool
+  before = pool owners marks medium
+
+  pub read-moves : (v : Replied) → m ≡ Read → v ≡ reads capacity (pool owners marks medium) (q .address .0) (q .size) in′
+      → moving v owners marks medium ≡ moves m q capacity (pool owners marks medium) out in′
+  unfolding moves moveRows moved fetched before
+  read-moves v e h = rw e (replying _ _ in′ before v h)
 
   pub status-moves : (v : Replied) → m ≡ Status → v ≡ tellsStatus capacity owners (q .address .0) (q .size) in′
-      → moving v owners medium ≡ moves m q capacity (pool owners medium) out in′
-  unfolding moves moveRows moved fetched
-  status-moves v e h = rw e (replying _ _ in′ (pool owners medium) v h)
+      → moving v owners marks medium ≡ moves m q capacity (pool owners marks medium) out in′
+  unfolding moves moveRows moved fetched before
+  status-moves v e h = rw e (replying _ _ in′ before v h)
 
-  module _ (r : Answer) (owners′ : List ℕ) where
+  module _ (r : Answer) (owners′ marks′ : List ℕ) where
     pub write-moves : (medium′ : List ℕ) → m ≡ Write
-        → leaving r (pool owners′ medium′) ≡ writes capacity (pool owners medium) (q .address .0) (q .size) out
-        → moving (plain r in′) owners′ medium′ ≡ moves m q capacity (pool owners medium) out in′
-    unfolding moves moveRows moved fetched
-    write-moves medium′ e h = rw e (settling (λ (p : Pool). p) _ r _ (pool owners medium) (pool owners′ medium′) in′ h)
+        → leaving r (pool owners′ marks′ medium′) ≡ writes capacity (pool owners marks medium) (q .address .0) (q .size) out
+        → moving (plain r in′) owners′ marks′ medium′ ≡ moves m q capacity (pool owners marks medium) out in′
+    unfolding moves moveRows moved fetched before
+    write-moves medium′ e h = rw e (settling (λ (p : Pool). p) _ r _ before (pool owners′ marks′ medium′) in′ h)
 
     pub same-moves : (medium′ : List ℕ) → m ≡ WriteSame
-        → leaving r (pool owners′ medium′) ≡ writesSame capacity (pool owners medium) (q .address .0) (q .size) (q .options) out
-        → moving (plain r in′) owners′ medium′ ≡ moves m q capacity (pool owners medium) out in′
-    unfolding moves moveRows moved fetched
-    same-moves medium′ e h = rw e (settling (λ (p : Pool). p) _ r _ (pool owners medium) (pool owners′ medium′) in′ h)
+        → leaving r (pool owners′ marks′ medium′) ≡ writesSame capacity (pool owners marks medium) (q .address .0) (q .size) (q .options) out
+        → moving (plain r in′) owners′ marks′ medium′ ≡ moves m q capacity (pool owners marks medium) out in′
+    unfolding moves moveRows moved fetched before
+    same-moves medium′ e h = rw e (settling (λ (p : Pool). p) _ r _ before (pool owners′ marks′ medium′) in′ h)
 
-    pub unmap-moves : m ≡ Unmap → leaving r owners′ ≡ unmaps capacity owners (q .size) out
-        → moving (plain r in′) owners′ medium ≡ moves m q capacity (pool owners medium) out in′
+    -- owners bring their marks with them
+    pub unmap-moves : marks ≡ marksOf owners → marks′ ≡ marksOf owners′ → m ≡ Unmap → leaving r owners′ ≡ unmaps capacity owners (q .size) out
+        → moving (plain r in′) owners′ marks′ medium ≡ moves m q capacity (pool owners marks medium) out in′
     unfolding moves moveRows moved fetched
-    unmap-moves e h = rw e (settling (λ (l : List ℕ). pool l medium) _ r _ owners owners′ in′ h)
+    unmap-moves k k′ e h = rw (e, k, k′) (settling (λ (l : List ℕ). pool l (marksOf l) medium) _ r _ owners owners′ in′ h)

@@ -15,6 +15,7 @@ use Rattle.answers.specs.declared.Answer.the-variants.{Good, Short}
 use Rattle.answers.specs.Answers.{outOfRange, noRoom}
 use Rattle.answers.specs.Order.{_if_, first, refuses}
 use Rattle.answers.proofs.OrderLaws.{row-pass, row-stop, row-end}
+use Rattle.pool.specs.Marks.{marksOf}
 use Rattle.pool.specs.Pool.{Pool, pool, copies, writeBlocks, roomFor, unmapOwners, unmapBlocks}
 use Rattle.map.specs.Write.{Written, written, tryWrite}
 use Rattle.store.specs.Same.{mayUnmap, hasNoData, blockSent, unmapsSame, sameBlocks}
@@ -38,28 +39,28 @@ asked may zero block e h = rw (e, h)
 -- ---- the part that has the block: to the n blocks from a on
 
 module _ (p : Pool) (a n : ℕ) (may : Bool) (block : List ℕ) where
-  pub spread-unmapped : (unmaps : Bool) (owners : List ℕ) → unmaps ≡ (may && areZeros block) → unmaps ≡ true → owners ≡ unmapOwners (p .owners) a n
-      → leaving Good (pool owners (p .medium)) ≡ spreads p a n may block
+  pub spread-unmapped : (unmaps : Bool) (owners marks : List ℕ) → unmaps ≡ (may && areZeros block) → unmaps ≡ true
+      → owners ≡ unmapOwners (p .owners) a n → marks ≡ marksOf owners → leaving Good (pool owners marks (p .medium)) ≡ spreads p a n may block
   unfolding unmapBlocks spreads
-  spread-unmapped unmaps owners e t h = rw (← e, t, h)
+  spread-unmapped unmaps owners marks e t h m = rw (← e, t, m, h)
 
-  module _ (unmaps : Bool) (e : unmaps ≡ (may && areZeros block)) (f : unmaps ≡ false) (done : Bool) (owners medium : List ℕ)
-      (w : written done owners medium ≡ tryWrite p a n (copies n block)) where
+  module _ (unmaps : Bool) (e : unmaps ≡ (may && areZeros block)) (f : unmaps ≡ false) (done : Bool) (owners marks medium : List ℕ)
+      (w : written done owners marks medium ≡ tryWrite p a n (copies n block)) where
     had-room : done ≡ roomFor (p .owners) a n
     unfolding tryWrite
     had-room = ap (λ (v : Written). v .done) w
 
-    became : (b : Bool) → done ≡ b → pool owners medium ≡ cond b (writeBlocks p a n (copies n block)) p
+    became : (b : Bool) → done ≡ b → pool owners marks medium ≡ cond b (writeBlocks p a n (copies n block)) p
     unfolding tryWrite
     became b t = ap (λ (v : Written). v .after) w ∙ rw (← ap (λ (v : Written). v .done) w, t)
 
-    pub spread-done : done ≡ true → leaving Good (pool owners medium) ≡ spreads p a n may block
+    pub spread-done : done ≡ true → leaving Good (pool owners marks medium) ≡ spreads p a n may block
     unfolding spreads
     spread-done t =
         rw (← e, f)
-        (settles-done _ _ p (pool owners medium) (row-pass (noRoom _) _ _ (ap not (sym had-room ∙ t)) ∙ row-end) (became true t))
+        (settles-done _ _ p (pool owners marks medium) (row-pass (noRoom _) _ _ (ap not (sym had-room ∙ t)) ∙ row-end) (became true t))
 
-    pub spread-full : (r : Answer) → r ≡ noRoom a → done ≡ false → leaving r (pool owners medium) ≡ spreads p a n may block
+    pub spread-full : (r : Answer) → r ≡ noRoom a → done ≡ false → leaving r (pool owners marks medium) ≡ spreads p a n may block
     unfolding spreads refuses
     spread-full r g t =
         rw (← e, f, g, became false t) (settles-refused _ (noRoom _) _ p (row-stop (noRoom _) _ _ (ap not (sym had-room ∙ t))) tt)

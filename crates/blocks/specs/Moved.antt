@@ -55,8 +55,8 @@ pub record Moved : Type 0 where
   pub reply : Replied
   pub after : Pool
 
-abbrev pub moving : Replied → List ℕ → List ℕ → Moved
-moving reply owners medium = record { reply = reply; after = pool owners medium }
+abbrev pub moving : Replied → List ℕ → List ℕ → List ℕ → Moved
+moving reply owners marks medium = record { reply = reply; after = pool owners marks medium }
 
 -- the call of which a command on the blocks sees nothing but the data
 abbrev pub dataOf : List ℕ → List ℕ → Call

@@ -34,24 +34,34 @@ pub fn move_blocks(
     request: Request,
     capacity: u64,
     owners: &mut [u64],
+    marks: &mut [u64],
     medium: &mut [u8],
     data_out: &[u8],
     data_in: &mut [u8],
 ) -> Reply
-    requires { ⌜ Bounded capacity (now owners) (now medium) × (T (isCounted (Moves what)) → request .size ≤ mostTransfer) ⌝ }
-    ensures { λ r. ⌜ moving (replied r (now («data_in» .exit))) (now (owners .exit)) (now (medium .exit))
-        ≡ moves what request capacity (pool (now (owners .entry)) (now (medium .entry))) (now («data_out» .entry)) (now («data_in» .entry)) ⌝ }
+    requires { ⌜ Bounded capacity (now owners) (now marks) (now medium) × (T (isCounted (Moves what)) → request .size ≤ mostTransfer) ⌝ }
+    ensures { λ r. ⌜ moving (replied r (now («data_in» .exit))) (now (owners .exit)) (now (marks .exit)) (now (medium .exit))
+        ≡ moves what request capacity (pool (now (owners .entry)) (now (marks .entry)) (now (medium .entry))) (now («data_out» .entry)) (now («data_in» .entry)) ⌝ }
 {
     let lba = request.address;
     let size = request.size;
     match what {
         Move::Read => transfer::read(capacity, owners, medium, lba, size, data_in),
-        Move::Write => plain(transfer::write(capacity, owners, medium, lba, size, data_out)),
+        Move::Write => plain(transfer::write(capacity, owners, marks, medium, lba, size, data_out)),
         Move::WriteSame => {
             let options = request.options;
-            plain(same::write_same(capacity, owners, medium, lba, size, options, data_out))
+            plain(same::write_same(
+                capacity,
+                owners,
+                marks,
+                medium,
+                lba,
+                size,
+                options,
+                data_out,
+            ))
         }
-        Move::Unmap => plain(unmap::unmap(capacity, owners, size, data_out)),
+        Move::Unmap => plain(unmap::unmap(capacity, owners, marks, size, data_out)),
         Move::Status => status::status(capacity, owners, lba, size, data_in),
     }
 }

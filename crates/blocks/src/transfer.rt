@@ -1,8 +1,10 @@
 // READ and WRITE, after the reservation has let them pass.
 ghost use mathlib.Core.Path.{_≡_};
-ghost use Prim.Native.Nat.{_+_, _≤_};
+ghost use mathlib.Core.List.{List};
+ghost use Prim.Native.Nat.{ℕ, _+_, _*_, _≤_};
 ghost use lib.Dec.{ltb};
-ghost use Rattle.pool.specs.Bounds.{mostTransfer};
+ghost use lib.ListN.{length};
+ghost use Rattle.pool.specs.Bounds.{mostBlocks, mostSlots, mostTransfer, blockBytes};
 ghost use Rattle.pool.specs.Pool.{pool};
 ghost use Rattle.reply.specs.Reply.{Bounded, replied, leaving};
 ghost use Rattle.blocks.specs.Moved.{reads, writes};
@@ -29,9 +31,12 @@ pub fn read(
     count: u64,
     data_in: &mut [u8],
 ) -> Reply
-    requires { ⌜ Bounded capacity (now owners) (now medium) × (count ≤ mostTransfer) ⌝ }
-    ensures { λ r. ⌜ replied r (now («data_in» .exit))
-        ≡ reads capacity (pool (now (owners .entry)) (now (medium .entry))) (lba .0) count (now («data_in» .entry)) ⌝ }
+    requires { ⌜ (capacity ≤ mostBlocks)
+        × (length (now owners) ≤ mostSlots)
+        × (length (now medium) ≡ blockBytes * length (now owners))
+        × (count ≤ mostTransfer) ⌝ }
+    ensures { λ r. ⌜ ((marks : List ℕ) → replied r (now («data_in» .exit))
+        ≡ reads capacity (pool (now (owners .entry)) marks (now (medium .entry))) (lba .0) count (now («data_in» .entry))) ⌝ }
 {
     if past_end(capacity, lba, count) {
         let answer = answers::out_of_range(lba.0);
@@ -58,14 +63,15 @@ pub fn read(
 pub fn write(
     capacity: u64,
     owners: &mut [u64],
+    marks: &mut [u64],
     medium: &mut [u8],
     lba: Lba,
     count: u64,
     data_out: &[u8],
 ) -> Answer
-    requires { ⌜ Bounded capacity (now owners) (now medium) × (count ≤ mostTransfer) ⌝ }
-    ensures { λ r. ⌜ leaving r (pool (now (owners .exit)) (now (medium .exit)))
-        ≡ writes capacity (pool (now (owners .entry)) (now (medium .entry))) (lba .0) count (now («data_out» .entry)) ⌝ }
+    requires { ⌜ Bounded capacity (now owners) (now marks) (now medium) × (count ≤ mostTransfer) ⌝ }
+    ensures { λ r. ⌜ leaving r (pool (now (owners .exit)) (now (marks .exit)) (now (medium .exit)))
+        ≡ writes capacity (pool (now (owners .entry)) (now (marks .entry)) (now (medium .entry))) (lba .0) count (now («data_out» .entry)) ⌝ }
 {
     if past_end(capacity, lba, count) {
         return answers::out_of_range(lba.0);
@@ -74,7 +80,7 @@ pub fn write(
     if data_out.len() < BLOCK_BYTES * blocks {
         return Answer::Short;
     }
-    if map::write::write_blocks(owners, medium, lba, blocks, data_out) {
+    if map::write::write_blocks(owners, marks, medium, lba, blocks, data_out) {
         Answer::Good
     } else {
         answers::no_room(lba.0)

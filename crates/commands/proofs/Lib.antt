@@ -3,4 +3,5 @@ pub mod SenseLaws
 pub mod StepLaws
 pub mod ServedLaws
 pub mod FreshLaws
+pub mod RoomLaws
 pub mod Only

@@ -71,32 +71,32 @@ altered-refused a q n dataOut u x e t =
     ∙ ap (λ (r : Rights). bare (first (alterRows a q (u .rights) n dataOut)) (enacted a n u r))
     (sym (if-refused (first (alterRows a q (u .rights) n dataOut)) _ (u .rights) (subst (λ (d : Decision). T (refuses (d .answer))) e t)))
 
-module _ (format : ℕ) (k : Command) (q : Request) (u : Unit) (owners medium : List ℕ) (c : Call) where
+module _ (format : ℕ) (k : Command) (q : Request) (u : Unit) (owners marks medium : List ℕ) (c : Call) where
   pub tells-served : (t : Tell) (v : Replied) → k ≡ Tells t → v ≡ tells t q u (c .dataIn)
-      → serving v (storeOf format u owners medium) ≡ servedBy k q (storeOf format u owners medium) c
+      → serving v (storeOf format u owners marks medium) ≡ servedBy k q (storeOf format u owners marks medium) c
   unfolding servedBy commandRows commandData commandStore
-  tells-served t v e h = rw e (serves-reply _ _ (storeOf format u owners medium) (c .dataIn) v h)
+  tells-served t v e h = rw e (serves-reply _ _ (storeOf format u owners marks medium) (c .dataIn) v h)
 
   pub alters-served : (a : Action) (r : Outcome) → k ≡ Alters a → r ≡ altersTo a (c .nexus) u (altered a q (u .rights) (c .nexus) (c .dataOut))
-      → served format r owners medium (c .dataIn) ≡ servedBy k q (storeOf format u owners medium) c
+      → served format r owners marks medium (c .dataIn) ≡ servedBy k q (storeOf format u owners marks medium) c
   unfolding servedBy commandRows commandData commandStore altered
   alters-served a r e h =
       rw (e, h)
-      (serves-part (λ (x : Rights). storeOf format (enacted a (c .nexus) u x) owners medium) _ _ (u .rights) (c .dataIn)
+      (serves-part (λ (x : Rights). storeOf format (enacted a (c .nexus) u x) owners marks medium) _ _ (u .rights) (c .dataIn)
       ∙ ap
       (λ (x : Unit). serves (first (alterRows a q (u .rights) (c .nexus) (c .dataOut))) []
-      (storeOf format (enacted a (c .nexus) u (acted a (u .rights) (c .nexus) (parametersOf q (c .dataOut)))) owners medium)
-      (storeOf format x owners medium) (c .dataIn))
+      (storeOf format (enacted a (c .nexus) u (acted a (u .rights) (c .nexus) (parametersOf q (c .dataOut)))) owners marks medium)
+      (storeOf format x owners marks medium) (c .dataIn))
       (enacted-still a (c .nexus) u))
 
-  pub moves-served : (m : Move) (v : Replied) (owners′ medium′ : List ℕ) → k ≡ Moves m
-      → moving v owners′ medium′ ≡ moves m q (u .capacity) (pool owners medium) (c .dataOut) (c .dataIn)
-      → serving v (storeOf format u owners′ medium′) ≡ servedBy k q (storeOf format u owners medium) c
+  pub moves-served : (m : Move) (v : Replied) (owners′ marks′ medium′ : List ℕ) → k ≡ Moves m
+      → moving v owners′ marks′ medium′ ≡ moves m q (u .capacity) (pool owners marks medium) (c .dataOut) (c .dataIn)
+      → serving v (storeOf format u owners′ marks′ medium′) ≡ servedBy k q (storeOf format u owners marks medium) c
   unfolding servedBy commandRows commandData commandStore
-  moves-served m v owners′ medium′ e h =
+  moves-served m v owners′ marks′ medium′ e h =
       rw e
-      (ap (λ (w : Moved). serving (w .reply) (record { format = format; unit = u; pool = w .after })) (h ∙ unseen m q (u .capacity) (pool owners medium) c)
-      ∙ whole-pool _ _ format u _ (pool owners medium) (c .dataIn))
+      (ap (λ (w : Moved). serving (w .reply) (record { format = format; unit = u; pool = w .after })) (h ∙ unseen m q (u .capacity) (pool owners marks medium) c)
+      ∙ whole-pool _ _ format u _ (pool owners marks medium) (c .dataIn))
 
 -- ---- a command that counts blocks counts at most 128
 

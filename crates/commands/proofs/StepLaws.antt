@@ -86,7 +86,7 @@ module _ (e : Entry) (s : Store) (c : Call) where
 
 -- an answer that returns no bytes and leaves the store, but what waited for the caller and was returned
 refused-result : (a : Answer) (s : Store) (c : Call) → T (refuses a) → (bs : List ℕ) (done : Store)
-    → left (s .format) (bare a (refusedUnit a (c .nexus) (s .unit))) (s .pool .owners) (s .pool .medium) (c .dataIn) (senseAfter (s .format) a (c .sense))
+    → left (s .format) (bare a (refusedUnit a (c .nexus) (s .unit))) (s .pool .owners) (s .pool .marks) (s .pool .medium) (c .dataIn) (senseAfter (s .format) a (c .sense))
     ≡ record { seen = seenOf (s .format) a bs c; store = leaves a done (withUnit s (refusedUnit a (c .nexus) (s .unit))) }
 unfolding seenOf leaves ifGoodBy refuses senseAfter
 refused-result Good s c t bs done = absurd t
@@ -97,19 +97,19 @@ refused-result Short s c t bs done = refl
 
 module _ (s : Store) (n : ℕ) (cdb out in′ sense : List ℕ) where
   step-refused : (a : Answer) → T (refuses a) → answerBy (entryOf cdb) s (callOf n cdb out in′ sense) ≡ a
-      → left (s .format) (bare a (refusedUnit a n (s .unit))) (s .pool .owners) (s .pool .medium) in′ (senseAfter (s .format) a sense)
+      → left (s .format) (bare a (refusedUnit a n (s .unit))) (s .pool .owners) (s .pool .marks) (s .pool .medium) in′ (senseAfter (s .format) a sense)
       ≡ step s (callOf n cdb out in′ sense)
   unfolding step stepBy
   step-refused a t e = rw e (refused-result a s (callOf n cdb out in′ sense) t _ _)
 
   pub step-unready : readyFor s (callOf n cdb [] [] sense) ≡ false
-      → left (s .format) (bare Unusable (s .unit)) (s .pool .owners) (s .pool .medium) in′ sense ≡ step s (callOf n cdb out in′ sense)
+      → left (s .format) (bare Unusable (s .unit)) (s .pool .owners) (s .pool .marks) (s .pool .medium) in′ sense ≡ step s (callOf n cdb out in′ sense)
   unfolding readyFor senseAfter refuses refusedUnit isAttention numberOf
   step-unready h = step-refused Unusable tt (answer-unready (entryOf cdb) s (callOf n cdb out in′ sense) h)
 
   module _ (h : readyFor s (callOf n cdb [] [] sense) ≡ true) where
     pub step-wrong : (a : Answer) (sense′ : List ℕ) → askedAt (entryOf cdb) (s .unit) n cdb ≡ Wrong a → sense′ ≡ senseAfter (s .format) a sense
-        → left (s .format) (bare a (refusedUnit a n (s .unit))) (s .pool .owners) (s .pool .medium) in′ sense′ ≡ step s (callOf n cdb out in′ sense)
+        → left (s .format) (bare a (refusedUnit a n (s .unit))) (s .pool .owners) (s .pool .marks) (s .pool .medium) in′ sense′ ≡ step s (callOf n cdb out in′ sense)
     unfolding readyFor
     step-wrong a sense′ w k =
         rw k
@@ -159,10 +159,10 @@ module _ (s : Store) (n : ℕ) (cdb out in′ sense : List ℕ) where
             T-false (isAttention (first (commandRows (q .command) q s (callOf n cdb out in′ sense)))) (command-quiet (q .command) q s (callOf n cdb out in′ sense)),
           )
 
-      pub step-served : (r : Outcome) (owners medium dataIn sense′ : List ℕ)
-          → served (s .format) r owners medium dataIn ≡ servedBy (q .command) q s (callOf n [] out in′ []) → sense′ ≡ senseAfter (s .format) (r .answer) sense
-          → left (s .format) r owners medium dataIn sense′ ≡ step s (callOf n cdb out in′ sense)
-      step-served r owners medium dataIn sense′ e k =
-          ap (λ (l : List ℕ). left (s .format) r owners medium dataIn l) k
+      pub step-served : (r : Outcome) (owners marks medium dataIn sense′ : List ℕ)
+          → served (s .format) r owners marks medium dataIn ≡ servedBy (q .command) q s (callOf n [] out in′ []) → sense′ ≡ senseAfter (s .format) (r .answer) sense
+          → left (s .format) r owners marks medium dataIn sense′ ≡ step s (callOf n cdb out in′ sense)
+      step-served r owners marks medium dataIn sense′ e k =
+          ap (λ (l : List ℕ). left (s .format) r owners marks medium dataIn l) k
           ∙ ap sensed (e ∙ unseen (q .command))
           ∙ step-asks

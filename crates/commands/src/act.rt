@@ -89,15 +89,16 @@ pub fn act(
     request: Request,
     unit: Unit,
     owners: &mut [u64],
+    marks: &mut [u64],
     medium: &mut [u8],
     nexus: u64,
     data_out: &[u8],
     data_in: &mut [u8],
 ) -> Outcome
-    requires { ⌜ Bounded (unit .capacity) (now owners) (now medium) × Fits request ⌝ }
-    ensures { λ r. ⌜ ((format : ℕ) → served format r (now (owners .exit)) (now (medium .exit)) (now («data_in» .exit))
+    requires { ⌜ Bounded (unit .capacity) (now owners) (now marks) (now medium) × Fits request ⌝ }
+    ensures { λ r. ⌜ ((format : ℕ) → served format r (now (owners .exit)) (now (marks .exit)) (now (medium .exit)) (now («data_in» .exit))
         ≡ servedBy (request .command) request
-        (storeOf format unit (now (owners .entry)) (now (medium .entry)))
+        (storeOf format unit (now (owners .entry)) (now (marks .entry)) (now (medium .entry)))
         (callOf nexus [] (now («data_out» .entry)) (now («data_in» .entry)) [])) ⌝ }
 {
     let command = request.command;
@@ -111,6 +112,7 @@ pub fn act(
                 request,
                 capacity,
                 owners,
+                marks,
                 medium,
                 data_out,
                 data_in,

@@ -5,6 +5,7 @@ mod stages;
 ghost use mathlib.Core.Path.{_≡_};
 ghost use Rattle.store.specs.Step.{step};
 ghost use Rattle.store.specs.Fresh.{freshUnit, fresh};
+ghost use Rattle.store.specs.Room.{roomOf};
 ghost use Rattle.reply.specs.Contract.{storeOf, callOf, left, made};
 ghost use Rattle.commands.specs.Served.{unmade};
 use answers::Answer;
@@ -12,8 +13,10 @@ use answers::sense;
 use answers::sense::put_refusal;
 use answers::sense::put_sense;
 use decoder::Decoded;
+use pool::MARK_WORDS;
 use reply::Made;
 use reply::Outcome;
+use store::Room;
 use store::Unit;
 
 // One call. Whatever is lent, it is answered.
@@ -21,6 +24,7 @@ pub fn execute(
     format: u64,
     unit: Unit,
     owners: &mut [u64],
+    marks: &mut [u64],
     medium: &mut [u8],
     nexus: u64,
     cdb: &[u8],
@@ -28,12 +32,12 @@ pub fn execute(
     data_in: &mut [u8],
     sense: &mut [u8],
 ) -> Outcome
-    ensures { λ r. ⌜ left format r (now (owners .exit)) (now (medium .exit)) (now («data_in» .exit)) (now (sense .exit))
+    ensures { λ r. ⌜ left format r (now (owners .exit)) (now (marks .exit)) (now (medium .exit)) (now («data_in» .exit)) (now (sense .exit))
         ≡ step
-        (storeOf format unit (now (owners .entry)) (now (medium .entry)))
+        (storeOf format unit (now (owners .entry)) (now (marks .entry)) (now (medium .entry)))
         (callOf nexus (now (cdb .entry)) (now («data_out» .entry)) (now («data_in» .entry)) (now (sense .entry))) ⌝ }
 {
-    if !readiness::ready(format, unit, owners, medium, nexus, cdb, sense) {
+    if !readiness::ready(format, unit, owners, marks, medium, nexus, cdb, sense) {
         return act::answered(Answer::Unusable, unit);
     }
     let asked = stages::asked(unit, nexus, cdb);
@@ -43,7 +47,16 @@ pub fn execute(
             act::answered(answer, act::refused_unit(answer, nexus, unit))
         }
         Decoded::Asks(request) => {
-            let outcome = act::act(request, unit, owners, medium, nexus, data_out, data_in);
+            let outcome = act::act(
+                request,
+                unit,
+                owners,
+                marks,
+                medium,
+                nexus,
+                data_out,
+                data_in,
+            );
             let answer = outcome.answer;
             // Not by `put_sense`: most calls are served, and need not lay out their answer to be told that it has no sense.
             let Answer::Refused(refusal) = answer else {
@@ -79,9 +92,9 @@ fn refused() -> Made
     }
 }
 
-// A fresh store. The medium is neither taken nor touched; bad bounds, and a format that is none, leave the owners.
-pub fn fresh(capacity: u64, format: u64, owners: &mut [u64]) -> Made
-    ensures { λ r. ⌜ made r (now (owners .exit)) ≡ fresh capacity format (now (owners .entry)) ⌝ }
+// A fresh store. The medium is neither taken nor touched; bad bounds, and a format that is none, leave the owners and the marks.
+pub fn fresh(capacity: u64, format: u64, owners: &mut [u64], marks: &mut [u64]) -> Made
+    ensures { λ r. ⌜ made r (now (owners .exit)) (now (marks .exit)) ≡ fresh capacity format (now (owners .entry)) (now (marks .entry)) ⌝ }
 {
     if !readiness::capacity_ok(capacity) {
         return refused();
@@ -92,10 +105,35 @@ pub fn fresh(capacity: u64, format: u64, owners: &mut [u64]) -> Made
     if !readiness::slots_ok(owners.len()) {
         return refused();
     }
+    if marks.len() != MARK_WORDS {
+        return refused();
+    }
     map::slots::free_all(owners);
+    marks::clear_all(marks);
     let unit = fresh_unit(capacity);
     Made {
         answer: Answer::Good,
         unit,
+    }
+}
+
+// The room of a store, read off its marks. It is no command, and changes nothing.
+pub fn room(format: u64, unit: Unit, owners: &[u64], marks: &[u64], medium: &[u8]) -> Room
+    ensures { λ r. ⌜ r ≡ roomOf (storeOf format unit (now (owners .entry)) (now (marks .entry)) (now (medium .entry))) ⌝ }
+{
+    if !readiness::usable(format, unit, owners, marks, medium) {
+        return Room {
+            answer: Answer::Unusable,
+            free: 0,
+            lowest: 0,
+        };
+    }
+    let slot = marks::lowest(marks);
+    let lowest = slot.0 as u64;
+    let free = (owners.len() - marks::marked(marks)) as u64;
+    Room {
+        answer: Answer::Good,
+        free,
+        lowest,
     }
 }

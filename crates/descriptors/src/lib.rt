@@ -2,7 +2,9 @@
 ghost use mathlib.Core.Path.{_≡_};
 ghost use mathlib.Core.Bool.{false};
 ghost use Prim.Native.Nat.{_+_, _≤_, _<_, _^_};
-ghost use Rattle.pool.specs.Bounds.{mostBlocks};
+ghost use lib.ListN.{length};
+ghost use Rattle.pool.specs.Bounds.{mostBlocks, mostSlots};
+ghost use Rattle.pool.specs.Marks.{marksOf};
 ghost use Rattle.pool.specs.Pool.{unmapOwners};
 ghost use Rattle.descriptors.specs.Descriptors.{descriptorAt, mostDescriptors, considered, fails, firstFailing, someFails, unmapAll};
 use pool::Lba;
@@ -130,25 +132,32 @@ pub fn first_failing(capacity: u64, list: &[u8], count: usize) -> Failing
 }
 
 // Unmaps the blocks of one descriptor. The bound keeps the range's end from wrapping.
-fn unmap_one(owners: &mut [u64], descriptor: Descriptor)
-    requires { ⌜ descriptor .address .0 + descriptor .count ≤ mostBlocks ⌝ }
-    ensures { λ _. ⌜ now (owners .exit) ≡ unmapOwners (now (owners .entry)) (descriptor .address .0) (descriptor .count) ⌝ }
+fn unmap_one(owners: &mut [u64], marks: &mut [u64], descriptor: Descriptor)
+    requires { ⌜ (descriptor .address .0 + descriptor .count ≤ mostBlocks)
+        × (length (now owners) ≤ mostSlots)
+        × (now marks ≡ marksOf (now owners)) ⌝ }
+    ensures { λ _. ⌜ (now (owners .exit) ≡ unmapOwners (now (owners .entry)) (descriptor .address .0) (descriptor .count))
+        × (now (marks .exit) ≡ marksOf (now (owners .exit))) ⌝ }
 {
     let address = descriptor.address;
     let count = descriptor.count;
-    map::unmap::unmap_blocks(owners, address, count);
+    map::unmap::unmap_blocks(owners, marks, address, count);
 }
 
 // Unmaps the blocks of the descriptors, one descriptor after another.
-pub fn unmap_all(owners: &mut [u64], list: &[u8], count: usize, capacity: u64)
-    requires { ⌜ (count ≤ mostDescriptors) × ((capacity ≤ mostBlocks) × (someFails capacity (now list) 8 count ≡ false)) ⌝ }
-    ensures { λ _. ⌜ now (owners .exit) ≡ unmapAll (now (owners .entry)) (now (list .entry)) 8 count ⌝ }
+pub fn unmap_all(owners: &mut [u64], marks: &mut [u64], list: &[u8], count: usize, capacity: u64)
+    requires { ⌜ (count ≤ mostDescriptors)
+        × ((capacity ≤ mostBlocks) × (someFails capacity (now list) 8 count ≡ false))
+        × (length (now owners) ≤ mostSlots)
+        × (now marks ≡ marksOf (now owners)) ⌝ }
+    ensures { λ _. ⌜ (now (owners .exit) ≡ unmapAll (now (owners .entry)) (now (list .entry)) 8 count)
+        × (now (marks .exit) ≡ marksOf (now (owners .exit))) ⌝ }
 {
     let mut reader = new(list);
     let mut left = count;
     while 0 < left {
         let taken = next(reader);
-        unmap_one(owners, taken.descriptor);
+        unmap_one(owners, marks, taken.descriptor);
         reader = taken.rest;
         left -= 1;
     }

@@ -11,15 +11,19 @@ use native.Mathlib.Numerals.{add-one}
 use lib.Dec.{T, ltb, ltb→lt, nltb→le}
 use lib.ListN.{length, getD, take, drop, set, length-append, length-set, drop-of-length-le}
 use lib.Seq.{drop-cons, drop-drop, getD-take, length-take-le, take-suc, take-set-lt}
-use borrow.Author.Tests.{ne-eqb, lt-ltb, le-ltb}
+use borrow.Author.Tests.{lt-ltb, le-ltb}
 use borrow.Rule.Slice.PartMut.{putMid, post-is}
 use Rattle.fields.specs.Bytes.{part, put, zeros}
 use Rattle.fields.proofs.BytesLaws.{put-is, put-next, put-none, length-part, length-zeros}
-use Rattle.fields.proofs.Tests.{test, true→T, T-true, T-false, by-equal}
-use Rattle.pool.specs.Bounds.{blockBytes}
+use Rattle.fields.proofs.Tests.{test, true→T, T-true, T-false}
+use Rattle.pool.specs.Bounds.{blockBytes, mostSlots}
+use Rattle.pool.specs.Marks.{marksOf, lowest}
+use Rattle.marks.specs.Words.{withMark}
 use Rattle.pool.specs.Pool.{place, has, mapped, free, unmapped, fill, assign, assignBlocks, putBlocks, readBlock, readBlocks}
 use Rattle.map.specs.Index.{places, Indexed, slotBytes, readPlaces, putPlaces}
 use Rattle.pool.specs.Pool.{pool}
+use Rattle.pool.proofs.Marking.{lowest-free}
+use Rattle.pool.proofs.SlotMarks.{marks-put}
 use Rattle.pool.proofs.Held.{place-below, place-none, below-has, fill-set, has-free}
 use Rattle.pool.proofs.Keeping.{length-assign, length-assignBlocks}
 use Rattle.pool.proofs.Writing.{free-assign, assign-mapped, unmapped-assign, mapped-write-in}
@@ -59,18 +63,18 @@ module _ (m : List ℕ) (slots i : ℕ) where
       (λ t. ap length (bytes-at (ltb→lt i slots t)) ∙ length-part m (blockBytes * i) blockBytes (let h = ltb→lt i slots t in omega arith))
       (λ t. ap length (bytes-none (nltb→le i slots t)) ∙ length-zeros blockBytes)
 
-block-is : (o m : List ℕ) (a : ℕ) → slotBytes m (length o) (place (suc a) o) ≡ readBlock (pool o m) a
+block-is : (o ms m : List ℕ) (a : ℕ) → slotBytes m (length o) (place (suc a) o) ≡ readBlock (pool o ms m) a
 unfolding slotBytes readBlock mapped
-block-is o m a = rw (below-is (suc a) o)
+block-is o ms m a = rw (below-is (suc a) o)
 
-readPlaces-is : (o m : List ℕ) (a n : ℕ) → readPlaces m (length o) (places o a n) ≡ readBlocks (pool o m) a n
+readPlaces-is : (o ms m : List ℕ) (a n : ℕ) → readPlaces m (length o) (places o a n) ≡ readBlocks (pool o ms m) a n
 unfolding readPlaces readBlocks places
-readPlaces-is o m a zero = refl
-readPlaces-is o m a (suc n) = rw (block-is o m a, readPlaces-is o m (suc a) n)
+readPlaces-is o ms m a zero = refl
+readPlaces-is o ms m a (suc n) = rw (block-is o ms m a, readPlaces-is o ms m (suc a) n)
 
 -- the blocks, read by their index
-pub read-indexed : (o index m : List ℕ) (a n : ℕ) → Indexed o a n index → readPlaces m (length o) (take n index) ≡ readBlocks (pool o m) a n
-read-indexed o index m a n x = ap (readPlaces m (length o)) (x .each) ∙ readPlaces-is o m a n
+pub read-indexed : (o ms index m : List ℕ) (a n : ℕ) → Indexed o a n index → readPlaces m (length o) (take n index) ≡ readBlocks (pool o ms m) a n
+read-indexed o ms index m a n x = ap (readPlaces m (length o)) (x .each) ∙ readPlaces-is o ms m a n
 
 module _ (m : List ℕ) (slots : ℕ) where
   length-read : length m ≡ blockBytes * slots → (is : List ℕ) → length (readPlaces m slots is) ≡ blockBytes * length is
@@ -187,31 +191,23 @@ assign-nothing o a (suc n) h =
     (λ t. rw (assign-mapped o a t) (assign-nothing o (suc a) n (omega arith)))
     (λ t. let e : _≡_ {A = ℕ} (cond (mapped o a) 0 1) 1 = rw (T-false (mapped o a) t) in absurd (omega arith))
 
--- once the lowest free slot is filled the next lies above it
-free-rises : (x : ℕ) (o : List ℕ) → x ≢ 0 → place 0 o < length o → place 0 o < place 0 (fill x o)
-unfolding place fill
-free-rises x [] d h = absurd (omega arith)
-free-rises x (y ∷ ys) d h =
-    by-equal y 0 (λ b. cond b 0 (suc (place 0 ys)) < suc (length ys) → cond b 0 (suc (place 0 ys)) < place 0 (cond b (x ∷ ys) (y ∷ fill x ys)))
-    (λ e u. rw (ne-eqb x 0 d) (omega arith))
-    (λ e u. rw (ne-eqb y 0 e) (let ih = free-rises x ys d (omega arith) in omega arith)) h
-
--- what holds of the owners o, their index and the cursor after the first k blocks have their slots
-pub record Given (o₀ : List ℕ) (a count : ℕ) (o index : List ℕ) (cursor k : ℕ) : Type 0 where
+-- what holds of the owners o, their marks and their index after the first k blocks have their slots
+pub record Given (o₀ : List ℕ) (a count : ℕ) (o marks index : List ℕ) (k : ℕ) : Type 0 where
   pub same : length o ≡ length o₀
   pub indexed : Indexed o a count index
   pub rest : assignBlocks o (a + k) (count - k) ≡ assignBlocks o₀ a count
   pub room : unmapped o (a + k) (count - k) ≤ free o
-  pub low : cursor ≤ place 0 o
+  pub few : length o ≤ mostSlots
+  pub marked : marks ≡ marksOf o
 
-pub give-start : (o index : List ℕ) (a count from : ℕ) → Indexed o a count index → unmapped o a count ≤ free o → from ≤ place 0 o
-    → Given o a count o index from 0
-give-start o index a count from e h l =
+pub give-start : (o marks index : List ℕ) (a count : ℕ) → length o ≤ mostSlots → marks ≡ marksOf o → Indexed o a count index
+    → unmapped o a count ≤ free o → Given o a count o marks index 0
+give-start o marks index a count l m e h =
     let z : count - 0 ≡ count = omega arith in
-    record { same = refl; indexed = e; rest = rw (add-zero a, z); room = rw (add-zero a, z) h; low = l }
+    record { same = refl; indexed = e; rest = rw (add-zero a, z); room = rw (add-zero a, z) h; few = l; marked = m }
 
-module _ (o₀ : List ℕ) (a count : ℕ) (o index : List ℕ) (cursor k : ℕ)
-    (g : Given o₀ a count o index cursor k) (h : k < count) where
+module _ (o₀ : List ℕ) (a count : ℕ) (o marks index : List ℕ) (k : ℕ)
+    (g : Given o₀ a count o marks index k) (h : k < count) where
   here : getD index k 0 ≡ place (suc (a + k)) o
   here = index-at o index a count k (g .indexed) h
 
@@ -224,25 +220,28 @@ module _ (o₀ : List ℕ) (a count : ℕ) (o index : List ℕ) (cursor k : ℕ)
   room-now : unmapped o (a + k) (suc (count - (k + 1))) ≤ free o
   room-now = rw (← left) (g .room)
 
-  give-next : (o′ index′ : List ℕ) (cursor′ : ℕ) → o′ ≡ assign o (a + k) → Indexed o′ a count index′ → cursor′ ≤ place 0 o′
-      → Given o₀ a count o′ index′ cursor′ (k + 1)
-  give-next o′ index′ cursor′ e f l = record {
-    same = ap length e ∙ length-assign o (a + k) ∙ g .same;
-    indexed = f;
-    rest =
-        rw (← next, e)
-        (sym (ap (assignBlocks o (a + k)) left ∙ rest-assign o (a + k) (count - (k + 1))) ∙ g .rest);
-    room = rw (← next, e) (room-assign o (a + k) (count - (k + 1)) room-now);
-    low = l;
-  }
+  give-next : (o′ marks′ index′ : List ℕ) → o′ ≡ assign o (a + k) → Indexed o′ a count index′ → marks′ ≡ marksOf o′
+      → Given o₀ a count o′ marks′ index′ (k + 1)
+  give-next o′ marks′ index′ e f m =
+      let s : length o′ ≡ length o = ap length e ∙ length-assign o (a + k) in
+      record {
+        same = s ∙ g .same;
+        indexed = f;
+        rest =
+            rw (← next, e)
+            (sym (ap (assignBlocks o (a + k)) left ∙ rest-assign o (a + k) (count - (k + 1))) ∙ g .rest);
+        room = rw (← next, e) (room-assign o (a + k) (count - (k + 1)) room-now);
+        few = rw s (g .few);
+        marked = m;
+      }
 
   -- a block that has its slot
-  pub give-none : getD index k 0 < length o → Given o₀ a count o index cursor (k + 1)
+  pub give-none : getD index k 0 < length o → Given o₀ a count o marks index (k + 1)
   give-none m =
       let t = below-has (suc (a + k)) o (rw here at m) in
-      give-next o index cursor (sym (assign-kept o (a + k) t)) (g .indexed) (g .low)
+      give-next o marks index (sym (assign-kept o (a + k) t)) (g .indexed) (g .marked)
 
-  -- a block that gets one
+  -- a block that gets one: the lowest that is not marked
   module _ (m : length o ≤ getD index k 0) where
     has-not : T (not (has (suc (a + k)) o))
     has-not =
@@ -250,23 +249,31 @@ module _ (o₀ : List ℕ) (a count : ℕ) (o index : List ℕ) (cursor k : ℕ)
         (λ t. let q = place-below (suc (a + k)) o t in let s = here in absurd (omega arith))
         (λ t. t)
 
-    pub give-below : place 0 o < length o
-    give-below = place-below 0 o (has-room o (a + k) (count - (k + 1)) room-now has-not)
+    below : place 0 o < length o
+    below = place-below 0 o (has-room o (a + k) (count - (k + 1)) room-now has-not)
 
-    pub give-one : (r : ℕ) → r ≡ place 0 o → Given o₀ a count (set o r (a + k + 1)) (set index k r) (r + 1) (k + 1)
+    lowest-is : lowest marks ≡ place 0 o
+    lowest-is = ap lowest (g .marked) ∙ lowest-free o (g .few)
+
+    pub give-below : (r : ℕ) → r ≡ lowest marks → r < length o
+    give-below r e = let b = below in let l = lowest-is in omega arith
+
+    pub give-one : (r : ℕ) → r ≡ lowest marks
+        → Given o₀ a count (set o r (a + k + 1)) (withMark marks r) (set index k r) (k + 1)
     give-one r e =
-        let z : suc (a + k) ≢ 0 = λ q. omega arith in
-        let f : set o r (a + k + 1) ≡ fill (suc (a + k)) o = rw (e, add-one (a + k)) (sym (fill-set (suc (a + k)) o)) in
+        let z : a + k + 1 ≢ 0 = λ q. omega arith in
+        let p : r ≡ place 0 o = e ∙ lowest-is in
+        let f : set o r (a + k + 1) ≡ fill (suc (a + k)) o = rw (p, add-one (a + k)) (sym (fill-set (suc (a + k)) o)) in
         let i : take count (set index k r) ≡ places (set o r (a + k + 1)) a count =
         take-set-lt count index k r h
-        ∙ rw (f, e, g .indexed .each) (sym (places-fill o a count k h has-not)) in
-        give-next _ _ (r + 1) (f ∙ sym (assign-new o (a + k) has-not)) (record { size = length-set index k r ∙ g .indexed .size; each = i })
-        (rw (f, e) (let l = free-rises (suc (a + k)) o z give-below in omega arith))
+        ∙ rw (f, p, g .indexed .each) (sym (places-fill o a count k h has-not)) in
+        give-next _ _ _ (f ∙ sym (assign-new o (a + k) has-not)) (record { size = length-set index k r ∙ g .indexed .size; each = i })
+        (rw (g .marked) (marks-put o r (g .few) (give-below r e) (a + k + 1) z))
 
-pub give-done : (o₀ : List ℕ) (a count : ℕ) (o index : List ℕ) (cursor k : ℕ) → Given o₀ a count o index cursor k → count ≡ k
+pub give-done : (o₀ : List ℕ) (a count : ℕ) (o marks index : List ℕ) (k : ℕ) → Given o₀ a count o marks index k → count ≡ k
     → o ≡ assignBlocks o₀ a count
 unfolding assignBlocks
-give-done o₀ a count o index cursor k g e =
+give-done o₀ a count o marks index k g e =
     let z : count - k ≡ 0 = omega arith in
     sym (ap (assignBlocks o (a + k)) z) ∙ g .rest
 

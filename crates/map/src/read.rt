@@ -1,6 +1,7 @@
 // Reading blocks: those of the medium, and zeros where there is no slot.
 ghost use mathlib.Core.Path.{_≡_};
-ghost use Prim.Native.Nat.{_+_, _*_, _≤_};
+ghost use mathlib.Core.List.{List};
+ghost use Prim.Native.Nat.{ℕ, _+_, _*_, _≤_};
 ghost use lib.ListN.{length};
 ghost use Rattle.fields.specs.Bytes.{put};
 ghost use Rattle.pool.specs.Bounds.{mostBlocks, mostSlots, mostTransfer, blockBytes};
@@ -29,7 +30,7 @@ fn read_slot(medium: &[u8], slots: usize, slot: Slot, out: &mut [u8])
     }
 }
 
-// The first bytes of `out` become those of `count` blocks. The bounds are what the caller has tested of its call: with them
+// The first bytes of `out` become those of `count` blocks, whatever the marks. The bounds are what the caller has tested of its call: with them
 // the index covers the range, no sum wraps, each slot has its bytes and `out` has room.
 pub fn read_blocks(owners: &[u64], medium: &[u8], lba: Lba, count: usize, out: &mut [u8])
     requires { ⌜ (count ≤ mostTransfer)
@@ -37,8 +38,8 @@ pub fn read_blocks(owners: &[u64], medium: &[u8], lba: Lba, count: usize, out: &
         × (length (now owners) ≤ mostSlots)
         × (length (now medium) ≡ blockBytes * length (now owners))
         × (blockBytes * count ≤ length (now out)) ⌝ }
-    ensures { λ _. ⌜ now (out .exit)
-        ≡ put (now (out .entry)) 0 (readBlocks (pool (now (owners .entry)) (now (medium .entry))) (lba .0) count) ⌝ }
+    ensures { λ _. ⌜ ((marks : List ℕ) → now (out .exit)
+        ≡ put (now (out .entry)) 0 (readBlocks (pool (now (owners .entry)) marks (now (medium .entry))) (lba .0) count)) ⌝ }
 {
     let index = index::index_of(owners, lba, count);
     let slots = owners.len();

@@ -3,59 +3,64 @@ ghost use mathlib.Core.Path.{_≡_};
 ghost use Prim.Native.Nat.{ℕ, _+_, _*_, _<_, _≤_};
 ghost use lib.ListN.{length, getD, take};
 ghost use Rattle.pool.specs.Bounds.{mostBlocks, mostSlots, mostTransfer, blockBytes};
-ghost use Rattle.pool.specs.Pool.{pool, place, free, unmapped, assignBlocks, copies};
+ghost use Rattle.pool.specs.Marks.{marksOf};
+ghost use Rattle.pool.specs.Pool.{pool, free, unmapped, assignBlocks, copies};
 ghost use Rattle.map.specs.Index.{Indexed, putPlaces};
 ghost use Rattle.map.specs.Write.{Gave, written, tryWrite};
 use crate::index;
-use crate::search;
 use fields::bytes;
 use pool::BLOCK_BYTES;
 use pool::Lba;
-use pool::Slot;
 
-// Each unmapped address of the range, in rising order, gets the lowest free slot, and the index its place. Below the
-// cursor, at first `from`, no slot is free, so the search for the next one never goes back.
-fn assign_blocks(owners: &mut [u64], index: &mut [usize], lba: Lba, count: usize, from: Slot)
+// Each unmapped address of the range, in rising order, gets the lowest free slot, which is marked, and the index its place.
+fn assign_blocks(owners: &mut [u64], marks: &mut [u64], index: &mut [usize], lba: Lba, count: usize)
     requires { ⌜ (count ≤ mostTransfer)
         × (lba .0 + count ≤ mostBlocks)
+        × (length (now owners) ≤ mostSlots)
+        × (now marks ≡ marksOf (now owners))
         × Indexed (now owners) (lba .0) count (now index)
-        × (unmapped (now owners) (lba .0) count ≤ free (now owners))
-        × (from .0 ≤ place 0 (now owners)) ⌝ }
+        × (unmapped (now owners) (lba .0) count ≤ free (now owners)) ⌝ }
     ensures { λ _. ⌜ (now (owners .exit) ≡ assignBlocks (now (owners .entry)) (lba .0) count)
+        × (now (marks .exit) ≡ marksOf (now (owners .exit)))
         × Indexed (now (owners .exit)) (lba .0) count (now (index .exit)) ⌝ }
 {
     let a = lba.0;
     let n = owners.len();
-    let mut cursor = from;
     for k in 0..count {
         if index[k] < n {
             continue;
         }
-        let found = search::next_free(owners, cursor);
-        let at = found.0;
+        let slot = marks::lowest(marks);
+        let at = slot.0;
         owners[at] = a + (k as u64) + 1;
+        marks::put(marks, slot);
         index[k] = at;
-        cursor = Slot(at + 1);
     }
 }
 
-// Slots for all blocks of the range or, where too few are free, for none; and whether they have them. Where no block is
-// unmapped no slot is searched.
-fn give_slots(owners: &mut [u64], index: &mut [usize], lba: Lba, count: usize) -> bool
+// Slots for all blocks of the range or, where too few are free, for none; and whether they have them. How many are free is read off the marks.
+fn give_slots(
+    owners: &mut [u64],
+    marks: &mut [u64],
+    index: &mut [usize],
+    lba: Lba,
+    count: usize,
+) -> bool
     requires { ⌜ (count ≤ mostTransfer)
         × (lba .0 + count ≤ mostBlocks)
+        × (length (now owners) ≤ mostSlots)
+        × (now marks ≡ marksOf (now owners))
         × Indexed (now owners) (lba .0) count (now index) ⌝ }
-    ensures { λ r. ⌜ Gave (now (owners .entry)) (lba .0) count r (now (owners .exit)) (now (index .exit)) ⌝ }
+    ensures { λ r. ⌜ Gave (now (owners .entry)) (lba .0) count r (now (owners .exit)) (now (marks .exit)) (now (index .exit)) ⌝ }
 {
     let missing = index::missing_in(index, owners.len(), count);
     if missing == 0 {
         return true;
     }
-    let first = search::lowest_free(owners);
-    if missing > search::free_from(owners, first) {
+    if missing > owners.len() - marks::marked(marks) {
         return false;
     }
-    assign_blocks(owners, index, lba, count, first);
+    assign_blocks(owners, marks, index, lba, count);
     true
 }
 
@@ -101,6 +106,7 @@ fn put_same(medium: &mut [u8], index: &[usize], slots: usize, count: usize, bloc
 // All of a write or nothing of it, and whether it was done. The bounds are what the caller has tested of its call, as for a read.
 pub fn write_blocks(
     owners: &mut [u64],
+    marks: &mut [u64],
     medium: &mut [u8],
     lba: Lba,
     count: usize,
@@ -109,14 +115,15 @@ pub fn write_blocks(
     requires { ⌜ (count ≤ mostTransfer)
         × (lba .0 + count ≤ mostBlocks)
         × (length (now owners) ≤ mostSlots)
+        × (now marks ≡ marksOf (now owners))
         × (length (now medium) ≡ blockBytes * length (now owners))
         × (blockBytes * count ≤ length (now bytes)) ⌝ }
-    ensures { λ r. ⌜ written r (now (owners .exit)) (now (medium .exit))
-        ≡ tryWrite (pool (now (owners .entry)) (now (medium .entry))) (lba .0) count (now (bytes .entry)) ⌝ }
+    ensures { λ r. ⌜ written r (now (owners .exit)) (now (marks .exit)) (now (medium .exit))
+        ≡ tryWrite (pool (now (owners .entry)) (now (marks .entry)) (now (medium .entry))) (lba .0) count (now (bytes .entry)) ⌝ }
 {
     let mut index = index::index_of(owners, lba, count);
     let slots = owners.len();
-    if !give_slots(owners, &mut index, lba, count) {
+    if !give_slots(owners, marks, &mut index, lba, count) {
         return false;
     }
     put_blocks(medium, &index, slots, count, bytes);
@@ -126,6 +133,7 @@ pub fn write_blocks(
 // All of a write of one block for the whole range or nothing of it, and whether it was done. The bounds are those of any write.
 pub fn write_same(
     owners: &mut [u64],
+    marks: &mut [u64],
     medium: &mut [u8],
     lba: Lba,
     count: usize,
@@ -134,14 +142,15 @@ pub fn write_same(
     requires { ⌜ (count ≤ mostTransfer)
         × (lba .0 + count ≤ mostBlocks)
         × (length (now owners) ≤ mostSlots)
+        × (now marks ≡ marksOf (now owners))
         × (length (now medium) ≡ blockBytes * length (now owners))
         × (length (now block) ≡ blockBytes) ⌝ }
-    ensures { λ r. ⌜ written r (now (owners .exit)) (now (medium .exit))
-        ≡ tryWrite (pool (now (owners .entry)) (now (medium .entry))) (lba .0) count (copies count (now (block .entry))) ⌝ }
+    ensures { λ r. ⌜ written r (now (owners .exit)) (now (marks .exit)) (now (medium .exit))
+        ≡ tryWrite (pool (now (owners .entry)) (now (marks .entry)) (now (medium .entry))) (lba .0) count (copies count (now (block .entry))) ⌝ }
 {
     let mut index = index::index_of(owners, lba, count);
     let slots = owners.len();
-    if !give_slots(owners, &mut index, lba, count) {
+    if !give_slots(owners, marks, &mut index, lba, count) {
         return false;
     }
     put_same(medium, &index, slots, count, block);

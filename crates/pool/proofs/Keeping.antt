@@ -1,6 +1,6 @@
 -- What is valid stays so: a write within the capacity and an unmapping keep the map valid, and every length.
 -- Assumes nothing.
-use mathlib.Core.Path.{_≡_, refl, _∙_}
+use mathlib.Core.Path.{_≡_, refl, sym, _∙_}
 use mathlib.Core.Bool.{Bool, not, _&&_, _||_, cond}
 use mathlib.Core.List.{List, [], _∷_, map}
 use mathlib.Core.Logic.{_≢_}
@@ -12,9 +12,11 @@ use lib.ListN.{length, take, drop, length-map}
 use Rattle.fields.specs.Bytes.{put, zeros}
 use Rattle.fields.proofs.BytesLaws.{length-put, length-zeros}
 use Rattle.fields.proofs.Tests.{and-l, and-r, both, or-other, nor-r, false→T, by-test, by-equal}
-use Rattle.pool.specs.Bounds.{blockBytes}
-use Rattle.pool.specs.Pool.{Pool, place, has, mapped, fill, assign, assignBlocks, putBlocks, writeBlocks, freed, unmapOwners, unmapBlocks}
+use Rattle.pool.specs.Bounds.{blockBytes, markWords}
+use Rattle.pool.specs.Marks.{marksOf, marksOk}
+use Rattle.pool.specs.Pool.{Pool, pool, place, has, mapped, fill, assign, assignBlocks, putBlocks, writeBlocks, freed, unmapOwners, unmapBlocks}
 use Rattle.pool.specs.Valid.{within, distinct, mapOk, slotsOk, poolOk}
+use Rattle.pool.proofs.Marking.{marksOk-is, is-marksOk, marks-zeros}
 use Rattle.pool.proofs.Held.{length-fill, has-fill-other, freed-ways}
 
 -- ---- lengths
@@ -58,26 +60,37 @@ module _ (capacity : ℕ) (p : Pool) where
   whole : Bool
   whole = eqb (length (p .medium)) (blockBytes * length (p .owners))
 
+  -- its bounds, and its state
+  bounds : Bool
+  bounds = slotsOk (length (p .owners)) && whole
+
+  state : Bool
+  state = mapOk capacity (p .owners) && marksOk (p .owners) (p .marks)
+
   pub poolOk-slots : T (poolOk capacity p) → T (slotsOk (length (p .owners)))
-  unfolding poolOk whole
-  poolOk-slots t = and-l (slotsOk (length (p .owners))) whole (and-l (slotsOk (length (p .owners)) && whole) (mapOk capacity (p .owners)) t)
+  unfolding poolOk whole bounds state
+  poolOk-slots t = and-l (slotsOk (length (p .owners))) whole (and-l bounds state t)
 
   pub poolOk-whole : T (poolOk capacity p) → length (p .medium) ≡ blockBytes * length (p .owners)
-  unfolding poolOk whole
+  unfolding poolOk whole bounds state
   poolOk-whole t =
-      eqb→eq (length (p .medium)) (blockBytes * length (p .owners))
-      (and-r (slotsOk (length (p .owners))) whole (and-l (slotsOk (length (p .owners)) && whole) (mapOk capacity (p .owners)) t))
+      eqb→eq (length (p .medium)) (blockBytes * length (p .owners)) (and-r (slotsOk (length (p .owners))) whole (and-l bounds state t))
 
   pub poolOk-map : T (poolOk capacity p) → T (mapOk capacity (p .owners))
-  unfolding poolOk whole
-  poolOk-map t = and-r (slotsOk (length (p .owners)) && whole) (mapOk capacity (p .owners)) t
+  unfolding poolOk whole bounds state
+  poolOk-map t = and-l (mapOk capacity (p .owners)) (marksOk (p .owners) (p .marks)) (and-r bounds state t)
+
+  pub poolOk-marks : T (poolOk capacity p) → p .marks ≡ marksOf (p .owners)
+  unfolding poolOk whole bounds state
+  poolOk-marks t = marksOk-is (p .owners) (p .marks) (and-r (mapOk capacity (p .owners)) (marksOk (p .owners) (p .marks)) (and-r bounds state t))
 
   pub poolOk-of : T (slotsOk (length (p .owners))) → length (p .medium) ≡ blockBytes * length (p .owners) → T (mapOk capacity (p .owners))
-      → T (poolOk capacity p)
-  unfolding poolOk whole
-  poolOk-of s e t =
-      both (slotsOk (length (p .owners)) && whole) (mapOk capacity (p .owners))
-      (both (slotsOk (length (p .owners))) whole s (rw e (eqb-refl (blockBytes * length (p .owners))))) t
+      → p .marks ≡ marksOf (p .owners) → T (poolOk capacity p)
+  unfolding poolOk whole bounds state
+  poolOk-of s e t m =
+      both bounds state
+      (both (slotsOk (length (p .owners))) whole s (rw e (eqb-refl (blockBytes * length (p .owners)))))
+      (both (mapOk capacity (p .owners)) (marksOk (p .owners) (p .marks)) t (is-marksOk (p .owners) (p .marks) m))
 
 -- a nonzero number names no block that a slot above names
 pub distinct-head : (y : ℕ) (ys : List ℕ) → T (distinct (y ∷ ys)) → y ≢ 0 → T (not (has y ys))
@@ -142,7 +155,7 @@ unfolding writeBlocks
 poolOk-writeBlocks capacity p a n bs t h =
     poolOk-of capacity (writeBlocks p a n bs) (rw (length-assignBlocks (p .owners) a n) (poolOk-slots capacity p t))
     (rw (length-putBlocks (assignBlocks (p .owners) a n) (p .medium) a n bs, length-assignBlocks (p .owners) a n) (poolOk-whole capacity p t))
-    (mapOk-assignBlocks capacity (p .owners) a n (poolOk-map capacity p t) h)
+    (mapOk-assignBlocks capacity (p .owners) a n (poolOk-map capacity p t) h) refl
 
 -- ---- an unmapping
 
@@ -181,7 +194,7 @@ unfolding unmapBlocks
 poolOk-unmapBlocks capacity p a n t =
     poolOk-of capacity (unmapBlocks p a n) (rw (length-unmapOwners (p .owners) a n) (poolOk-slots capacity p t))
     (rw (length-unmapOwners (p .owners) a n) (poolOk-whole capacity p t))
-    (mapOk-unmapOwners capacity (p .owners) a n (poolOk-map capacity p t))
+    (mapOk-unmapOwners capacity (p .owners) a n (poolOk-map capacity p t)) refl
 
 -- ---- a fresh map
 
@@ -198,6 +211,7 @@ mapOk-zeros capacity n = mapOk-of capacity (zeros n) (all-within n) (all-distinc
     all-distinct (suc n) = distinct-more 0 (zeros n) (λ d. absurd (d refl)) (all-distinct n)
 
 pub poolOk-fresh : (capacity slots : ℕ) (medium : List ℕ) → T (slotsOk slots) → length medium ≡ blockBytes * slots
-    → T (poolOk capacity (record { owners = zeros slots; medium = medium }))
+    → T (poolOk capacity (pool (zeros slots) (zeros markWords) medium))
 poolOk-fresh capacity slots medium t e =
-    poolOk-of capacity (record { owners = zeros slots; medium = medium }) (rw (length-zeros slots) t) (rw (length-zeros slots) e) (mapOk-zeros capacity slots)
+    poolOk-of capacity (pool (zeros slots) (zeros markWords) medium) (rw (length-zeros slots) t) (rw (length-zeros slots) e) (mapOk-zeros capacity slots)
+    (sym (marks-zeros slots))

@@ -1,3 +1,5 @@
+pub mod Marking
+pub mod SlotMarks
 pub mod Held
 pub mod Keeping
 pub mod Writing

@@ -13,7 +13,7 @@ use Rattle.fields.specs.Bytes.{part, zeros}
 use Rattle.fields.proofs.BytesLaws.{length-part, length-zeros, zeros-add}
 use Rattle.fields.proofs.Tests.{test, true→T, T-true, T-false}
 use Rattle.pool.specs.Bounds.{blockBytes}
-use Rattle.pool.specs.Pool.{Pool, place, mapped, free, unmapped, readBlock, readBlocks, assignBlocks, writeBlocks, unmapBlocks}
+use Rattle.pool.specs.Pool.{Pool, pool, place, mapped, free, unmapped, readBlock, readBlocks, assignBlocks, writeBlocks, unmapBlocks}
 use Rattle.pool.proofs.Held.{place-below, places-apart, all-free, free-zeros}
 use Rattle.pool.proofs.Keeping.{length-assignBlocks}
 use Rattle.pool.proofs.Writing.{mapped-write-in, mapped-write-out, place-write-out, put-in, put-out, next-block}
@@ -43,8 +43,8 @@ pub fresh-mapped : (slots b : ℕ) → mapped (zeros slots) b ≡ false
 unfolding mapped
 fresh-mapped slots b = all-free (suc b) (zeros slots) (omega arith) (free-zeros slots ∙ sym (length-zeros slots))
 
-pub fresh-read : (slots : ℕ) (medium : List ℕ) (b : ℕ) → readBlock (record { owners = zeros slots; medium = medium }) b ≡ zeros blockBytes
-fresh-read slots medium b = read-unmapped (record { owners = zeros slots; medium = medium }) b (fresh-mapped slots b)
+pub fresh-read : (slots : ℕ) (marks medium : List ℕ) (b : ℕ) → readBlock (pool (zeros slots) marks medium) b ≡ zeros blockBytes
+fresh-read slots marks medium b = read-unmapped (pool (zeros slots) marks medium) b (fresh-mapped slots b)
 
 -- ---- after a write
 
@@ -141,5 +141,5 @@ read-after-write p a n bs w l room = reads-blocks (writeBlocks p a n bs) a n bs 
 pub read-after-unmap : (p : Pool) (a n : ℕ) → readBlocks (unmapBlocks p a n) a n ≡ zeros (blockBytes * n)
 read-after-unmap p a n = reads-zeros (unmapBlocks p a n) a n (λ i h. unmap-in p a n i h)
 
-pub read-fresh : (slots : ℕ) (medium : List ℕ) (a n : ℕ) → readBlocks (record { owners = zeros slots; medium = medium }) a n ≡ zeros (blockBytes * n)
-read-fresh slots medium a n = reads-zeros (record { owners = zeros slots; medium = medium }) a n (λ i h. fresh-read slots medium (a + i))
+pub read-fresh : (slots : ℕ) (marks medium : List ℕ) (a n : ℕ) → readBlocks (pool (zeros slots) marks medium) a n ≡ zeros (blockBytes * n)
+read-fresh slots marks medium a n = reads-zeros (pool (zeros slots) marks medium) a n (λ i h. fresh-read slots marks medium (a + i))

@@ -17,3 +17,10 @@ blockBytes = 512
 -- "blocks in one READ or WRITE | 128"; by Q-1 in one WRITE SAME too
 abbrev pub mostTransfer : ℕ
 mostTransfer = 128
+
+-- Q-7: "one bit per slot in two 64-bit words"
+abbrev pub wordSlots : ℕ
+wordSlots = 64
+
+abbrev pub markWords : ℕ
+markWords = 2

@@ -1,4 +1,5 @@
 pub mod Bounds
+pub mod Marks
 pub mod Pool
 pub mod Valid
 pub mod Faults

@@ -7,21 +7,24 @@ use lib.Dec.{eqb, leb, ltb}
 use lib.ListN.{take, drop}
 use Rattle.fields.specs.Bytes.{part, put, zeros}
 use Rattle.pool.specs.Bounds.{blockBytes}
+use Rattle.pool.specs.Marks.{marksOf}
 
 -- "The pool is one lent buffer of 512 bytes per slot, and one owner number per slot: 0 is free, otherwise the block address plus 1."
+-- Q-7: "Keep occupancy marks": they lie beside the owners, and are no part of what everybody may know.
 pub record Pool : Type 0 where
   pub owners : List ℕ
+  pub marks : List ℕ
   pub medium : List ℕ
 
-abbrev pub pool : List ℕ → List ℕ → Pool
-pool owners medium = record { owners = owners; medium = medium }
+abbrev pub pool : List ℕ → List ℕ → List ℕ → Pool
+pool owners marks medium = record { owners = owners; marks = marks; medium = medium }
 
--- changed by name: what is not named stays
+-- changed by name: what is not named stays, but that owners bring their marks with them
 abbrev pub withOwners : Pool → List ℕ → Pool
-withOwners p owners = record { owners = owners; medium = p .medium }
+withOwners p owners = record { owners = owners; marks = marksOf owners; medium = p .medium }
 
 abbrev pub withMedium : Pool → List ℕ → Pool
-withMedium p medium = record { owners = p .owners; medium = medium }
+withMedium p medium = record { owners = p .owners; marks = p .marks; medium = medium }
 
 -- the lowest slot whose owner number is x; as many as there are slots where none is
 unfoldable pub place : ℕ → List ℕ → ℕ

@@ -6,6 +6,7 @@ use Prim.Native.Nat.{ℕ, suc, _*_}
 use lib.Dec.{eqb, leb, ltb}
 use lib.ListN.{length}
 use Rattle.pool.specs.Bounds.{mostBlocks, mostSlots, blockBytes}
+use Rattle.pool.specs.Marks.{marksOk}
 use Rattle.pool.specs.Pool.{Pool, has}
 use Rattle.pool.specs.declared.Slot.{Slot}
 use Rattle.pool.specs.declared.Checked.{Checked}
@@ -36,7 +37,8 @@ slotsOk slots = leb 1 slots && leb slots mostSlots
 -- none of "slots or capacity out of bounds, medium not 512 x slots bytes, invalid state", as far as it is the pool's
 unfoldable pub poolOk : ℕ → Pool → Bool
 poolOk capacity p =
-    slotsOk (length (p .owners)) && eqb (length (p .medium)) (blockBytes * length (p .owners)) && mapOk capacity (p .owners)
+    slotsOk (length (p .owners)) && eqb (length (p .medium)) (blockBytes * length (p .owners))
+    && (mapOk capacity (p .owners) && marksOk (p .owners) (p .marks))
 
 -- ---- the check, which names what is wrong
 

@@ -24,3 +24,8 @@ pub const BLOCK_BYTES: usize = 512;
 
 // The most blocks that one read or write moves.
 pub const MOST_TRANSFER: usize = 128;
+
+// The words of marks, whatever the slots, and the slots that one of them marks.
+pub const MARK_WORDS: usize = 2;
+
+pub const WORD_SLOTS: usize = 64;

@@ -2,13 +2,12 @@
 ghost use mathlib.Core.Path.{_≡_};
 ghost use mathlib.Core.List.{[]};
 ghost use Rattle.pool.specs.Pool.{pool};
-ghost use Rattle.pool.specs.Valid.{capacityOk, slotsOk, mapOk, poolOk};
-ghost use Rattle.store.specs.Store.{unitOk};
+ghost use Rattle.pool.specs.Valid.{capacityOk, slotsOk, poolOk};
+ghost use Rattle.store.specs.Store.{unitOk, usable};
 ghost use Rattle.reply.specs.Contract.{storeOf, callOf};
 ghost use Rattle.readiness.specs.Ready.{readyFor};
 use answers::sense;
 use pool::BLOCK_BYTES;
-use pool::Checked;
 use pool::MOST_BLOCKS;
 use pool::MOST_SLOTS;
 use rights::LAST_NEXUS;
@@ -32,17 +31,6 @@ pub fn slots_ok(slots: usize) -> bool
     slots <= MOST_SLOTS
 }
 
-fn map_ok(capacity: u64, owners: &[u64]) -> bool
-    ensures { λ r. ⌜ r ≡ mapOk capacity (now (owners .entry)) ⌝ }
-{
-    let checked = audit::check(capacity, owners);
-    match checked {
-        Checked::Valid => true,
-        Checked::Beyond(_) => false,
-        Checked::Clash(_, _) => false,
-    }
-}
-
 fn unit_ok(unit: Unit) -> bool
     ensures { λ r. ⌜ r ≡ unitOk unit ⌝ }
 {
@@ -57,8 +45,9 @@ fn unit_ok(unit: Unit) -> bool
     attentions::valid(attentions)
 }
 
-fn pool_ok(capacity: u64, owners: &[u64], medium: &[u8]) -> bool
-    ensures { λ r. ⌜ r ≡ poolOk capacity (pool (now (owners .entry)) (now (medium .entry))) ⌝ }
+// The owners are passed once, and the marks held to them.
+fn pool_ok(capacity: u64, owners: &[u64], marks: &[u64], medium: &[u8]) -> bool
+    ensures { λ r. ⌜ r ≡ poolOk capacity (pool (now (owners .entry)) (now (marks .entry)) (now (medium .entry))) ⌝ }
 {
     if !slots_ok(owners.len()) {
         return false;
@@ -66,14 +55,28 @@ fn pool_ok(capacity: u64, owners: &[u64], medium: &[u8]) -> bool
     if medium.len() != BLOCK_BYTES * owners.len() {
         return false;
     }
-    map_ok(capacity, owners)
+    audit::sound(capacity, owners, marks)
 }
 
-// Whether nothing refuses the call before its command is looked at. The whole state is checked, once, and last.
+// Whether the store is within its bounds and in a valid state. The whole of it is checked, the pool last.
+pub fn usable(format: u64, unit: Unit, owners: &[u64], marks: &[u64], medium: &[u8]) -> bool
+    ensures { λ r. ⌜ r ≡ usable (storeOf format unit (now (owners .entry)) (now (marks .entry)) (now (medium .entry))) ⌝ }
+{
+    if !sense::format_ok(format) {
+        return false;
+    }
+    if !unit_ok(unit) {
+        return false;
+    }
+    pool_ok(unit.capacity, owners, marks, medium)
+}
+
+// Whether nothing refuses the call before its command is looked at. The state is checked once, and last.
 pub fn ready(
     format: u64,
     unit: Unit,
     owners: &[u64],
+    marks: &[u64],
     medium: &[u8],
     nexus: u64,
     cdb: &[u8],
@@ -81,7 +84,7 @@ pub fn ready(
 ) -> bool
     ensures { λ r. ⌜ r
         ≡ readyFor
-        (storeOf format unit (now (owners .entry)) (now (medium .entry)))
+        (storeOf format unit (now (owners .entry)) (now (marks .entry)) (now (medium .entry)))
         (callOf nexus (now (cdb .entry)) [] [] (now (sense .entry))) ⌝ }
 {
     if LAST_NEXUS < nexus {
@@ -93,11 +96,5 @@ pub fn ready(
     if sense.len() < sense::sense_bytes(format) {
         return false;
     }
-    if !sense::format_ok(format) {
-        return false;
-    }
-    if !unit_ok(unit) {
-        return false;
-    }
-    pool_ok(unit.capacity, owners, medium)
+    usable(format, unit, owners, marks, medium)
 }

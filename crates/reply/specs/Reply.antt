@@ -8,6 +8,7 @@ use Rattle.fields.specs.Bytes.{put}
 use Rattle.answers.specs.declared.Answer.{Answer}
 use Rattle.answers.specs.Order.{ifGood}
 use Rattle.pool.specs.Bounds.{mostBlocks, mostSlots, blockBytes}
+use Rattle.pool.specs.Marks.{marksOf}
 use Rattle.store.specs.Store.{Store, leaves}
 use Rattle.reply.specs.declared.Reply.{Reply}
 use Rattle.reply.specs.declared.Outcome.{Outcome}
@@ -15,11 +16,12 @@ use Rattle.reply.specs.Contract.{storeOf}
 
 -- ---- what a command may rely on once the store is found usable
 
-pub record Bounded (capacity : ℕ) (owners medium : List ℕ) : Type 0 where
+pub record Bounded (capacity : ℕ) (owners marks medium : List ℕ) : Type 0 where
   pub some : 1 ≤ capacity
   pub few : capacity ≤ mostBlocks
   pub slots : length owners ≤ mostSlots
   pub whole : length medium ≡ blockBytes * length owners
+  pub marked : marks ≡ marksOf owners
 
 -- ---- a reply: the answer, how many bytes it returns, and data-in after it
 
@@ -52,10 +54,10 @@ pub record Served : Type 0 where
   pub reply : Replied
   pub store : Store
 
-abbrev pub served : ℕ → Outcome → List ℕ → List ℕ → List ℕ → Served
-served format r owners medium dataIn = record {
+abbrev pub served : ℕ → Outcome → List ℕ → List ℕ → List ℕ → List ℕ → Served
+served format r owners marks medium dataIn = record {
   reply = record { answer = r .answer; returned = r .returned; dataIn = dataIn };
-  store = storeOf format (r .unit) owners medium;
+  store = storeOf format (r .unit) owners marks medium;
 }
 
 unfoldable pub serves : Answer → List ℕ → Store → Store → List ℕ → Served

@@ -5,24 +5,26 @@
 // so the meaning stands there.
 ghost use mathlib.Core.Path.{_≡_};
 ghost use Rattle.reply.specs.Contract.{storeOf, callOf};
-ghost use Rattle.ridge.specs.Interface.{executed, freshened, leaves, leavesFresh};
+ghost use Rattle.ridge.specs.Interface.{executed, freshened, roomed, leaves, leavesFresh, leavesRoom};
+use pool::MARK_WORDS;
 use store::Unit;
 
 mod by_value;
 
-// Makes a fresh store: its unit and its owners, and whether its format is one. The answer is document 01's number.
+// Makes a fresh store: its unit, its owners and its marks, and whether its format is one. The answer is document 01's number.
 #[no_mangle]
 pub extern "C" fn ridge_fresh(
     capacity: u64,
     format: u64,
     unit: &mut Unit,
     owners: &mut [u64],
+    marks: &mut [u64; MARK_WORDS],
 ) -> u64
-    ensures { λ r. ⌜ leavesFresh r (now (unit .exit)) (now (owners .exit))
-        ≡ freshened capacity format (now (unit .entry)) (now (owners .entry)) ⌝ }
+    ensures { λ r. ⌜ leavesFresh r (now (unit .exit)) (now (owners .exit)) (now (marks .exit))
+        ≡ freshened capacity format (now (unit .entry)) (now (owners .entry)) (now (marks .entry)) ⌝ }
 {
     let before = *unit;
-    let done = by_value::fresh(capacity, format, before, owners);
+    let done = by_value::fresh(capacity, format, before, owners, marks);
     let after = done.unit;
     *unit = after;
     done.answer
@@ -34,6 +36,7 @@ pub extern "C" fn ridge_execute(
     format: u64,
     unit: &mut Unit,
     owners: &mut [u64],
+    marks: &mut [u64; MARK_WORDS],
     medium: &mut [u8],
     nexus: u64,
     cdb: &[u8],
@@ -43,9 +46,9 @@ pub extern "C" fn ridge_execute(
     returned: &mut u64,
 ) -> u64
     ensures { λ r. ⌜ leaves r (now (returned .exit)) (now (unit .exit))
-        (now (owners .exit)) (now (medium .exit)) (now («data_in» .exit)) (now (sense .exit))
+        (now (owners .exit)) (now (marks .exit)) (now (medium .exit)) (now («data_in» .exit)) (now (sense .exit))
         ≡ executed
-        (storeOf format (now (unit .entry)) (now (owners .entry)) (now (medium .entry)))
+        (storeOf format (now (unit .entry)) (now (owners .entry)) (now (marks .entry)) (now (medium .entry)))
         (callOf nexus (now (cdb .entry)) (now («data_out» .entry)) (now («data_in» .entry)) (now (sense .entry))) ⌝ }
 {
     let before = *unit;
@@ -53,6 +56,7 @@ pub extern "C" fn ridge_execute(
         format,
         before,
         owners,
+        marks,
         medium,
         nexus,
         cdb,
@@ -64,4 +68,32 @@ pub extern "C" fn ridge_execute(
     let after = done.unit;
     *unit = after;
     done.answer
+}
+
+// Tells how many slots of a store are free, and which is the lowest of them. The answer is document 01's number; any but 0 writes neither.
+#[no_mangle]
+pub extern "C" fn ridge_room(
+    format: u64,
+    unit: &Unit,
+    owners: &[u64],
+    marks: &[u64; MARK_WORDS],
+    medium: &[u8],
+    free_slots: &mut u64,
+    lowest_free: &mut u64,
+) -> u64
+    ensures { λ r. ⌜ leavesRoom r (now («free_slots» .exit)) (now («lowest_free» .exit))
+        ≡ roomed
+        (storeOf format (now (unit .entry)) (now (owners .entry)) (now (marks .entry)) (now (medium .entry)))
+        (now («free_slots» .entry)) (now («lowest_free» .entry)) ⌝ }
+{
+    let record = *unit;
+    by_value::room(
+        format,
+        record,
+        owners,
+        marks,
+        medium,
+        free_slots,
+        lowest_free,
+    )
 }

@@ -17,6 +17,7 @@ use Rattle.pool.specs.Valid.{capacityOk, slotsOk}
 use Rattle.store.specs.declared.Unit.{Unit}
 use Rattle.store.specs.Store.{Store, Call, Result}
 use Rattle.store.specs.Step.{step}
+use Rattle.pool.specs.Bounds.{markWords}
 use Rattle.store.specs.Fresh.{fresh, freshAnswer, freshUnit, freshStore}
 use Rattle.reply.specs.Contract.{storeOf, callOf}
 use Rattle.contents.specs.Contents.{calls, nexusOf, cdbLength, outLength, bodyEnd, bodiesBegin, goodSheet}
@@ -27,14 +28,15 @@ use Rattle.store.proofs.Returned.{returned-fits}
 
 -- ---- a fresh store
 
-pub fresh-is : (owners : List ℕ) → length owners ≡ slots → fresh capacity fixed owners ≡ record { answer = Good; unit = freshUnit capacity; owners = zeros slots }
+pub fresh-is : (owners marks : List ℕ) → length owners ≡ slots → length marks ≡ markWords
+    → fresh capacity fixed owners marks ≡ record { answer = Good; unit = freshUnit capacity; owners = zeros slots; marks = zeros markWords }
 unfolding fresh freshAnswer firstOf ifGoodBy capacityOk slotsOk formatOk refuses
-fresh-is owners e = rw e
+fresh-is owners marks e m = rw (e, m)
 
-pub fresh-store : (unit : Unit) (owners medium : List ℕ) → unit ≡ freshUnit capacity → owners ≡ zeros slots → medium ≡ replicate (512 * slots) 0
-    → storeOf fixed unit owners medium ≡ benchStore
+pub fresh-store : (unit : Unit) (owners marks medium : List ℕ) → unit ≡ freshUnit capacity → owners ≡ zeros slots → marks ≡ zeros markWords
+    → medium ≡ replicate (512 * slots) 0 → storeOf fixed unit owners marks medium ≡ benchStore
 unfolding benchStore freshStore
-fresh-store unit owners medium d e q = rw (d, e, q, ← zeros-replicate (512 * slots))
+fresh-store unit owners marks medium d e m q = rw (d, e, m, q, ← zeros-replicate (512 * slots))
 
 -- ---- a call
 

@@ -5,6 +5,7 @@ ghost use Prim.Native.Nat.{_+_, _*_, _≤_, _<_};
 ghost use lib.ListN.{length};
 ghost use Rattle.fields.specs.Bytes.{zeros};
 ghost use Rattle.answers.specs.Sense.{fixed};
+ghost use Rattle.pool.specs.Bounds.{markWords};
 ghost use Rattle.store.specs.Fresh.{freshUnit};
 ghost use Rattle.reply.specs.Contract.{storeOf};
 ghost use Rattle.contents.specs.Contents.{mostCalls, mostBytes, bodyEnd, goodSheet};
@@ -13,6 +14,7 @@ ghost use Rattle.sheet.specs.Printed.{capacity, slots};
 ghost use Rattle.sheet.specs.Leaves.{Serves, Runs};
 use answers::sense::FIXED;
 use answers::sense::FIXED_BYTES;
+use pool::MARK_WORDS;
 use store::Unit;
 
 // 01: "fresh store of capacity 8 and 2 slots, 4,096 bytes of data-in".
@@ -32,6 +34,7 @@ struct Served {
 fn serve(
     unit: Unit,
     owners: &mut [u64],
+    marks: &mut [u64],
     medium: &mut [u8],
     sheet: &[u8],
     i: usize,
@@ -42,8 +45,8 @@ fn serve(
     requires { ⌜ (i < mostCalls) × (bodyEnd (now sheet) i at ≤ length (now sheet)) × (length (now sheet) ≤ mostBytes)
         × (end + lineMost ≤ length (now out)) ⌝ }
     ensures { λ r. ⌜ Serves (now (sheet .entry)) i at
-        (storeOf fixed unit (now (owners .entry)) (now (medium .entry)))
-        (storeOf fixed (r .unit) (now (owners .exit)) (now (medium .exit)))
+        (storeOf fixed unit (now (owners .entry)) (now (marks .entry)) (now (medium .entry)))
+        (storeOf fixed (r .unit) (now (owners .exit)) (now (marks .exit)) (now (medium .exit)))
         (now (out .entry)) end (now (out .exit)) (r .end) ⌝ }
 {
     let mut data_in = [0u8; DATA_IN];
@@ -55,6 +58,7 @@ fn serve(
         FIXED,
         unit,
         owners,
+        marks,
         medium,
         nexus,
         &sheet[at..middle],
@@ -70,11 +74,11 @@ fn serve(
 }
 
 // The unit of a fresh store.
-fn fresh_unit(owners: &mut [u64]) -> Unit
-    requires { ⌜ length (now owners) ≡ slots ⌝ }
-    ensures { λ r. ⌜ (r ≡ freshUnit capacity) × (now (owners .exit) ≡ zeros slots) ⌝ }
+fn fresh_unit(owners: &mut [u64], marks: &mut [u64]) -> Unit
+    requires { ⌜ (length (now owners) ≡ slots) × (length (now marks) ≡ markWords) ⌝ }
+    ensures { λ r. ⌜ (r ≡ freshUnit capacity) × (now (owners .exit) ≡ zeros slots) × (now (marks .exit) ≡ zeros markWords) ⌝ }
 {
-    let made = commands::fresh(CAPACITY, FIXED, owners);
+    let made = commands::fresh(CAPACITY, FIXED, owners, marks);
     let unit = made.unit;
     unit
 }
@@ -85,14 +89,25 @@ pub fn run_calls(sheet: &[u8], out: &mut [u8], start: usize) -> usize
     ensures { λ r. ⌜ Runs (now (sheet .entry)) (now (out .entry)) start (now (out .exit)) r ⌝ }
 {
     let mut owners = [0u64; SLOTS];
+    let mut marks = [0u64; MARK_WORDS];
     let mut medium = [0u8; 512 * SLOTS];
-    let mut unit = fresh_unit(&mut owners);
+    let mut unit = fresh_unit(&mut owners, &mut marks);
     let mut end = start;
     let n = contents::calls_in(sheet);
     let mut at = 1 + 4 * n;
     let mut i: usize = 0;
     while i < n {
-        let served = serve(unit, &mut owners, &mut medium, sheet, i, at, out, end);
+        let served = serve(
+            unit,
+            &mut owners,
+            &mut marks,
+            &mut medium,
+            sheet,
+            i,
+            at,
+            out,
+            end,
+        );
         let next = served.unit;
         unit = next;
         end = served.end;

@@ -7,3 +7,4 @@ pub mod Alter
 pub mod Conflict
 pub mod Step
 pub mod Fresh
+pub mod Room

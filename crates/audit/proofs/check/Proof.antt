@@ -3,9 +3,7 @@
 use mathlib.Core.Path.{_≡_, _∙_, sym}
 use Prim.Native.Nat.{_≤_, _-_}
 use lib.ListN.{length, drop}
-use Rattle.fields.proofs.Tests.{true→T}
 use Rattle.pool.specs.Valid.{beyondFrom, clashFrom, checked}
-use Rattle.pool.proofs.Clashes.{valid-checked}
 use Rattle.audit.proofs.Turns.{check-start, beyond-hit, beyond-miss, beyond-end}
 use borrow.Author.Needs.{needs}
 use Rattle.audit.proofs.check.Statement.{statement}
@@ -17,23 +15,17 @@ Inv-loop capacity owners i₀ i-end i = (i ≤ length owners) × (checked capaci
 abbrev μ-loop : tie.MeasureT-loop
 μ-loop capacity owners i₀ i-end i = i-end - i
 
-sound-requires : tie.Need-sound-requires Inv-loop μ-loop
-sound-requires c κs = search needs
-
-returns : tie.Need-returns Inv-loop μ-loop
-returns c = sym (valid-checked _ _ (true→T _ (sym ((c .before .sound .ensures)) ∙ (c .if2 .taken))))
-
 loop-holds : tie.Need-loop-holds Inv-loop μ-loop
 loop-holds c = (search needs, check-start _ _)
 
-mul-if3 : tie.Need-mul-if3 Inv-loop μ-loop
-mul-if3 c = search needs
+mul-if1 : tie.Need-mul-if1 Inv-loop μ-loop
+mul-if1 c = search needs
 
-shared-slice-read-if3 : tie.Need-shared-slice-read-if3 Inv-loop μ-loop
-shared-slice-read-if3 c = search needs
+shared-slice-read-if1 : tie.Need-shared-slice-read-if1 Inv-loop μ-loop
+shared-slice-read-if1 c = search needs
 
-returns-2 : tie.Need-returns-2 Inv-loop μ-loop
-returns-2 c = sym ((c .before .before .before .loop .inv .1) ∙ beyond-hit _ _ _ _ ((c .before .before .loop-test .taken)) ((c .if3 .taken)))
+returns : tie.Need-returns Inv-loop μ-loop
+returns c = sym ((c .before .before .before .loop .inv .1) ∙ beyond-hit _ _ _ _ ((c .before .before .loop-test .taken)) ((c .if1 .taken)))
 
 add-i : tie.Need-add-i Inv-loop μ-loop
 add-i c = search needs
@@ -42,13 +34,13 @@ loop-less : tie.Need-loop-less Inv-loop μ-loop
 loop-less c = search needs
 
 loop-again : tie.Need-loop-again Inv-loop μ-loop
-loop-again c = (search needs, (c .before .before .before .loop .inv .1) ∙ beyond-miss _ _ _ _ ((c .before .before .loop-test .taken)) ((c .if3 .left)))
+loop-again c = (search needs, (c .before .before .before .loop .inv .1) ∙ beyond-miss _ _ _ _ ((c .before .before .loop-test .taken)) ((c .if1 .left)))
 
 first-clash-requires : tie.Need-first-clash-requires Inv-loop μ-loop
 first-clash-requires c κs = search needs
 
-returns-3 : tie.Need-returns-3 Inv-loop μ-loop
-returns-3 c = (c .first-clash .ensures) ∙ sym ((c .before .before .loop .inv .1) ∙ beyond-end _ _ _ _ ((c .before .loop-test .left)))
+returns-2 : tie.Need-returns-2 Inv-loop μ-loop
+returns-2 c = (c .first-clash .ensures) ∙ sym ((c .before .before .loop .inv .1) ∙ beyond-end _ _ _ _ ((c .before .loop-test .left)))
 
 pub check-spec : {M : Type 1} → statement M
 check-spec =
@@ -56,14 +48,12 @@ check-spec =
     (tie.spec
     Inv-loop
     μ-loop
-    sound-requires
-    returns
     loop-holds
-    mul-if3
-    shared-slice-read-if3
-    returns-2
+    mul-if1
+    shared-slice-read-if1
+    returns
     add-i
     loop-less
     loop-again
     first-clash-requires
-    returns-3)
+    returns-2)

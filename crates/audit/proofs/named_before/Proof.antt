@@ -1,6 +1,6 @@
-use mathlib.Core.Path.{sym}
 -- `named_before`: no slot from the link on names the block, and the link is into its chain.
 -- Assumes nothing.
+use mathlib.Core.Path.{sym}
 use native.Mathlib.Omega.{arith}
 use Rattle.audit.proofs.Chains.{Walked, walk-start, walk-in, walk-less, walk-on, walk-found, walk-end}
 use borrow.Author.Needs.{needs}

@@ -24,6 +24,7 @@ use sound.WpLaws.{FmC, fmOf, WpFn-mono}
 use denote.RattleType.{owns}
 use denote.Laws.{Is, shows}
 use denote.Plain.{uint-vals, uint-tells, uint-makes}
+use denote.Array.{Array}
 use denote.Builtin.{u64}
 use denote.Ref.{RefT, MutRef, ptr-vals, mut-tells}
 use denote.Slice.{MutSlice, slice-vals, mut-slice-tells}
@@ -64,30 +65,32 @@ module _ {M : Type 1} (𝓤 : URA M) (H : Heap 𝓤) (A : Atoms 𝓤) (mem : Mem
   Callee = tripleOf 𝓤 H A callee.signature (callee.spec 𝓤 H A mem run)
 
 module _ {M : Type 1} (𝓤 : URA M) (H : Heap 𝓤) (A : Atoms 𝓤) (W : Given 𝓤 H A) (mem : Memory → SProp 𝓤) (run : Routine → Fun 𝓤)
-    (κ : Lft) (κs : Lfts 1) (q : Share) (qs : Shares 1) (b o : ℕ) (γ : GName) (before : Unit)
-    (capacity format : ℕ) (owners : RefT (List ℕ)) (capacity-fits : capacity < 2 ^ 64) (format-fits : format < 2 ^ 64) where
+    (κ : Lft) (κs : Lfts 2) (q : Share) (qs : Shares 2) (b o : ℕ) (γ : GName) (before : Unit)
+    (capacity format : ℕ) (owners marks : RefT (List ℕ)) (capacity-fits : capacity < 2 ^ 64) (format-fits : format < 2 ^ 64) where
   abbrev lent : RefT Unit
   lent = record { ptr = (b, o); name = γ; now = before }
 
   abbrev args : Args f.signature (κ, κs)
-  args = (capacity, (format, (lent, (owners, tt))))
+  args = (capacity, (format, (lent, (owners, (marks, tt)))))
 
   abbrev vals : Vals f.signature (κ, κs)
-  vals = (vint w64 capacity ∷ [], (vint w64 format ∷ [], (vptr b o ∷ [], (slice owners ∷ [], tt))))
+  vals = (vint w64 capacity ∷ [], (vint w64 format ∷ [], (vptr b o ∷ [], (slice owners ∷ [], (vptr (marks .ptr .0) (marks .ptr .1) ∷ [], tt)))))
 
   -- what the callee's triple binds outside: the record goes in by value
   abbrev arg : Args callee.signature κs
-  arg = (capacity, (format, (before, (owners, tt))))
+  arg = (capacity, (format, (before, (owners, (marks, tt)))))
 
   abbrev to : Callee 𝓤 H A mem run .Ghost
-  to = ((κs, qs, tt, arg, (vint w64 capacity ∷ [], (vint w64 format ∷ [], (unitVal before ∷ [], (slice owners ∷ [], tt))))), tt)
+  to = ((κs, qs, tt, arg, (vint w64 capacity ∷ [], (vint w64 format ∷ [], (unitVal before ∷ [], (slice owners ∷ [], (vptr (marks .ptr .0) (marks .ptr .1) ∷ [], tt)))))), tt)
 
   abbrev Tokens : SProp 𝓤
   Tokens = alive 𝓤 H A callee.signature κs qs
 
   -- what the parameters behind the record own
   abbrev Rest : Fml
-  Rest = owns (MutSlice (named 1) (κs .0) u64 ∷ []) (owners, tt) (slice owners ∷ [], tt)
+  Rest =
+      owns (MutSlice (named 1) (κs .0) u64 ∷ MutRef (named 2) (κs .1 .0) (Array u64 2) ∷ []) (owners, (marks, tt))
+      (slice owners ∷ [], (vptr (marks .ptr .0) (marks .ptr .1) ∷ [], tt))
 
   -- and what goes to the callee
   abbrev Passed : Fml
@@ -97,7 +100,7 @@ module _ {M : Type 1} (𝓤 : URA M) (H : Heap 𝓤) (A : Atoms 𝓤) (W : Given
   goes = qed W (raw Tokens ∷ ‵ Passed ∷ []) ∵ join ! $ frame ! $ done !
 
   abbrev Said : Done → Lasts callee.ended κs arg → Type 0
-  Said r zs = leavesFresh (r .answer) (r .unit) (zs .1 .1 .1 .0) ≡ freshened capacity format before (owners .now)
+  Said r zs = leavesFresh (r .answer) (r .unit) (zs .1 .1 .1 .0) (zs .1 .1 .1 .1 .0) ≡ freshened capacity format before (owners .now) (marks .now)
 
   abbrev Post : Val → SProp 𝓤
   Post = walkOf 𝓤 H A f.ended stayed (f.clauses 𝓤 H A mem run) .post (((κ, κs), (q, qs), tt, args, vals), tt)
@@ -115,71 +118,72 @@ module _ {M : Type 1} (𝓤 : URA M) (H : Heap 𝓤) (A : Atoms 𝓤) (W : Given
   module _ (C : Calls 𝓤 H) (Λ : Loops 𝓤 H) (fm : FmC 𝓤 H (W .laws) C) (known : Triple 𝓤 (C #callee) (Callee 𝓤 H A mem run)) where
     walk : Fits owners
         → ent 𝓤 (onEntry 𝓤 H A f.signature (κ, κs) (q, qs) args vals)
-        (WpFn 𝓤 H C Λ code.function (vint w64 capacity ∷ vint w64 format ∷ vptr b o ∷ slice owners ∷ []) Post)
+        (WpFn 𝓤 H C Λ code.function (vint w64 capacity ∷ vint w64 format ∷ vptr b o ∷ slice owners ∷ vptr (marks .ptr .0) (marks .ptr .1) ∷ []) Post)
     walk owners-fits =
         qed W ((‵ (flft κ q) ⊛ raw Tokens) ∷ ‵ (fsep (u64 .own capacity (vint w64 capacity ∷ [])) (fsep (u64 .own format (vint w64 format ∷ [])) (fsep (MutRef (named 0) κ T.the-row .own lent (vptr b o ∷ [])) Rest))) ∷ []) ∵
         split ! $ move ! (2 ∷ []) $ fsplit ! $ drop ! $ fsplit ! $ drop ! $ fsplit ! $ fsplit3 ! $ drop ! $ move ! (0 ∷ 1 ∷ 3 ∷ []) $
         -- [obs; the borrow; its token; the rest's; the other tokens]
-        enter ! C Λ code.function (vint w64 capacity ∷ vint w64 format ∷ vptr b o ∷ slice owners ∷ []) _ $
+        enter ! C Λ code.function (vint w64 capacity ∷ vint w64 format ∷ vptr b o ∷ slice owners ∷ vptr (marks .ptr .0) (marks .ptr .1) ∷ []) _ $
         alloc1 ! (λ l0. alloc1 ! (λ l1. alloc1 ! (λ l2. alloc1 ! (λ l3. alloc1 ! (λ l4. alloc1 ! (λ l5. alloc1 ! (λ l6. alloc1 ! (λ l7. alloc1 ! (λ l8.
-        alloc1 ! (λ l9. alloc0 ! $ params1 ! $
-        pass1 ! (init ! 16 refl (tt, record { fits = capacity-fits })) $ pass1 ! (init ! 14 refl (tt, record { fits = format-fits })) $ pass1 ! (init ! 12 refl (tt, tt)) $
-        pass1 ! (init ! 10 refl (tt, slice-typed owners owners-fits)) $ pass0 ! $
+        alloc1 ! (λ l9. alloc1 ! (λ l10. alloc1 ! (λ l11. alloc0 ! $ params1 ! $
+        pass1 ! (init ! 20 refl (tt, record { fits = capacity-fits })) $ pass1 ! (init ! 18 refl (tt, record { fits = format-fits })) $ pass1 ! (init ! 16 refl (tt, tt)) $
+        pass1 ! (init ! 14 refl (tt, slice-typed owners owners-fits)) $ pass1 ! (init ! 12 refl (tt, tt)) $ pass0 ! $
         -- the borrow is opened, and the record read
-        move ! (20 ∷ 21 ∷ 22 ∷ []) $ opens ! tt T.the-row {h = before} b o (λ vs.
+        move ! (24 ∷ 25 ∷ 26 ∷ []) $ opens ! tt T.the-row {h = before} b o (λ vs.
         spelt ! T.the-row (Is T.the-row) (shows 𝓤 H A T.the-row) (LL.vals T.the-type T′.the-laws) (LL.tells T.the-type T′.the-laws) fullShare before vs b o $
         move ! (1 ∷ []) $ peeks ! T.the-row (Is T.the-row) (shows 𝓤 H A T.the-row) before (unitVal before ∷ []) (λ was. move ! (1 ∷ 0 ∷ []) $
-        -- [the record's cell; what it owns; the open borrow; obs; auth; _9; …; _0; …; the rest's; the other tokens]
-        assigns ! (of-opd ! (load ! (from ! (hop ! (look ! 17 refl) (stop !))) (look-raw ! 0 refl))) (from ! (stop !)) (init ! 13 refl (unit-typed 𝓤 H A W before _ was)) $
+        -- [the record's cell; what it owns; the open borrow; obs; auth; _11; …; _0; …; the rest's; the other tokens]
+        assigns ! (of-opd ! (load ! (from ! (hop ! (look ! 21 refl) (stop !))) (look-raw ! 0 refl))) (from ! (stop !)) (init ! 15 refl (unit-typed 𝓤 H A W before _ was)) $
         -- owners is lent on
-        assigns ! (addr ! (from ! (fld ! refl (hop ! (look-in ! 15 (sub ! 0 refl (whole !))) (stop !))))) (from ! (stop !)) (init ! 7 refl (tt, tt)) $
-        assigns ! (agg ! (and-then ! (load ! (from ! (stop !)) (look ! 7 refl)) (and-then ! (load ! (from ! (fld ! refl (stop !))) (look-in ! 15 (sub ! 1 refl (whole !)))) (no-more !))))
-        (from ! (stop !)) (init ! 5 refl (tt, slice-typed owners owners-fits)) $
+        assigns ! (addr ! (from ! (fld ! refl (hop ! (look-in ! 19 (sub ! 0 refl (whole !))) (stop !))))) (from ! (stop !)) (init ! 9 refl (tt, tt)) $
+        assigns ! (agg ! (and-then ! (load ! (from ! (stop !)) (look ! 9 refl)) (and-then ! (load ! (from ! (fld ! refl (stop !))) (look-in ! 19 (sub ! 1 refl (whole !)))) (no-more !))))
+        (from ! (stop !)) (init ! 7 refl (tt, slice-typed owners owners-fits)) $
+        -- marks is lent on
+        assigns ! (addr ! (from ! (hop ! (look ! 17 refl) (stop !)))) (from ! (stop !)) (init ! 5 refl (tt, tt)) $
         -- the call
-        move ! (1 ∷ 25 ∷ []) $ fjoin ! $ owned ! u64 (Is u64) (uint-makes 𝓤 H A W w64) format _ (refl, format-fits) $ fjoin ! $
+        move ! (1 ∷ 29 ∷ []) $ fjoin ! $ owned ! u64 (Is u64) (uint-makes 𝓤 H A W w64) format _ (refl, format-fits) $ fjoin ! $
         owned ! u64 (Is u64) (uint-makes 𝓤 H A W w64) capacity _ (refl, capacity-fits) $ fjoin ! $
-        move ! (25 ∷ 0 ∷ []) $ use2 W (raw (Callee 𝓤 H A mem run .pre to)) goes $
-        -- [what it asks; the record's cell; the open borrow; obs; auth; _9; …; _0; …]
+        move ! (29 ∷ 0 ∷ []) $ use2 W (raw (Callee 𝓤 H A mem run .pre to)) goes $
+        -- [what it asks; the record's cell; the open borrow; obs; auth; _11; …; _0; …]
         calls-at ! fm (Callee 𝓤 H A mem run) known to
-        (and-then ! (load ! (from ! (stop !)) (look ! 21 refl)) (and-then ! (load ! (from ! (stop !)) (look ! 19 refl)) (and-then ! (load ! (from ! (stop !)) (look ! 13 refl))
-        (and-then ! (load ! (from ! (stop !)) (look ! 5 refl)) (no-more !))))) (λ w.
+        (and-then ! (load ! (from ! (stop !)) (look ! 25 refl)) (and-then ! (load ! (from ! (stop !)) (look ! 23 refl)) (and-then ! (load ! (from ! (stop !)) (look ! 15 refl)) (and-then ! (load ! (from ! (stop !)) (look ! 7 refl)) (and-then ! (load ! (from ! (stop !)) (look ! 5 refl)) (no-more !)))))) (λ w.
         use1 W (later (some (λ (r : Done). (raw Tokens ⊛ ‵ (D.the-row .own r (w ∷ []))) ⊛ raw (ensured 𝓤 H A callee.ended (callee.clauses 𝓤 H A mem run) κs arg tt r)))) (id⊢ 𝓤 _) $ await ! tt $ pick ! (λ r.
         split ! $ move ! (1 ∷ []) $ use1 W (some (λ (zs : Lasts callee.ended κs arg). ‵ (lasts callee.ended κs arg zs) ⊛ raw (fact 𝓤 (Said r zs)))) (id⊢ 𝓤 _) $ pick ! (λ zs.
         split ! $ move ! (1 ∷ []) $ heard ! (Said r zs) (λ e. move ! (1 ∷ []) $ split ! $ move ! (1 ∷ []) $
-        -- [the result; the other tokens; the last values; the record's cell; the open borrow; obs; auth; _9; …; _0; …]
-        peeks ! D.the-row (Is D.the-row) (shows 𝓤 H A D.the-row) r (w ∷ []) (λ is. land ! (from ! (stop !)) (init ! 13 refl (done-typed 𝓤 H A W r _ is)) $
-        rewrite ! 13 (λ (z : Val). ‵ (fat fullShare D′.mir l6 0 z)) (ap only (LL.tells D.the-type D′.the-laws r _ is)) refl $
+        -- [the result; the other tokens; the last values; the record's cell; the open borrow; obs; auth; _11; …; _0; …]
+        peeks ! D.the-row (Is D.the-row) (shows 𝓤 H A D.the-row) r (w ∷ []) (λ is. land ! (from ! (stop !)) (init ! 15 refl (done-typed 𝓤 H A W r _ is)) $
+        rewrite ! 15 (λ (z : Val). ‵ (fat fullShare D′.mir l7 0 z)) (ap only (LL.tells D.the-type D′.the-laws r _ is)) refl $
         -- the record is stored, and the borrow closed
-        assigns ! (of-opd ! (load ! (from ! (fld ! refl (stop !))) (look-in ! 13 (sub ! 0 refl (whole !))))) (from ! (stop !)) (init ! 11 refl (unit-typed 𝓤 H A W (r .unit) _ (is-unit r _ is))) $
-        assigns ! (of-opd ! (load ! (from ! (stop !)) (look ! 11 refl))) (from ! (hop ! (look ! 19 refl) (stop !))) (store-raw ! 3 refl (unit-typed 𝓤 H A W (r .unit) _ (is-unit r _ is))) $
-        assigns ! (of-opd ! (load ! (from ! (fld ! refl (stop !))) (look-in ! 13 (sub ! 1 refl (whole !))))) (from ! (stop !)) (init ! 25 refl (tt, record { fits = answer-fits r _ is })) $
+        assigns ! (of-opd ! (load ! (from ! (fld ! refl (stop !))) (look-in ! 15 (sub ! 0 refl (whole !))))) (from ! (stop !)) (init ! 13 refl (unit-typed 𝓤 H A W (r .unit) _ (is-unit r _ is))) $
+        assigns ! (of-opd ! (load ! (from ! (stop !)) (look ! 13 refl))) (from ! (hop ! (look ! 23 refl) (stop !))) (store-raw ! 3 refl (unit-typed 𝓤 H A W (r .unit) _ (is-unit r _ is))) $
+        assigns ! (of-opd ! (load ! (from ! (fld ! refl (stop !))) (look-in ! 15 (sub ! 1 refl (whole !))))) (from ! (stop !)) (init ! 29 refl (tt, record { fits = answer-fits r _ is })) $
         drop ! $ owned ! T.the-row (Is T.the-row) (LL.makes T.the-type T′.the-plain 𝓤 H A) (r .unit) (unitVal (r .unit) ∷ []) (is-unit r _ is) $
         move ! (3 ∷ 0 ∷ 4 ∷ 5 ∷ 6 ∷ []) $ closes ! tt T.the-row (r .unit) (unitVal (r .unit) ∷ []) b o $
-        -- [obs; the borrow; its token; the other tokens; the last values; _9; …; _0; …]
-        returns ! (look ! 23 refl) $ forget ! 5 refl $ forget ! 7 refl $ forget ! 9 refl $ forget ! 11 refl $ forget ! 13 refl $ forget ! 15 refl $
-        forget ! 17 refl $ forget ! 19 refl $ forget ! 21 refl $ forget ! 23 refl $
-        move ! (23 ∷ 24 ∷ []) $ free1 ! $ move ! (21 ∷ 22 ∷ []) $ free1 ! $ move ! (19 ∷ 20 ∷ []) $ free1 ! $ move ! (17 ∷ 18 ∷ []) $ free1 ! $ move ! (15 ∷ 16 ∷ []) $ free1 ! $
-        move ! (13 ∷ 14 ∷ []) $ free1 ! $ move ! (11 ∷ 12 ∷ []) $ free1 ! $ move ! (9 ∷ 10 ∷ []) $ free1 ! $ move ! (7 ∷ 8 ∷ []) $ free1 ! $
-        move ! (5 ∷ 6 ∷ []) $ free1 ! $ free0 ! $
+        -- [obs; the borrow; its token; the other tokens; the last values; _11; …; _0; …]
+        returns ! (look ! 27 refl) $ forget ! 5 refl $ forget ! 7 refl $ forget ! 9 refl $ forget ! 11 refl $ forget ! 13 refl $ forget ! 15 refl $ forget ! 17 refl $
+        forget ! 19 refl $ forget ! 21 refl $ forget ! 23 refl $ forget ! 25 refl $ forget ! 27 refl $
+        move ! (27 ∷ 28 ∷ []) $ free1 ! $ move ! (25 ∷ 26 ∷ []) $ free1 ! $ move ! (23 ∷ 24 ∷ []) $ free1 ! $ move ! (21 ∷ 22 ∷ []) $ free1 ! $ move ! (19 ∷ 20 ∷ []) $ free1 ! $
+        move ! (17 ∷ 18 ∷ []) $ free1 ! $ move ! (15 ∷ 16 ∷ []) $ free1 ! $ move ! (13 ∷ 14 ∷ []) $ free1 ! $ move ! (11 ∷ 12 ∷ []) $ free1 ! $ move ! (9 ∷ 10 ∷ []) $ free1 ! $
+        move ! (7 ∷ 8 ∷ []) $ free1 ! $ move ! (5 ∷ 6 ∷ []) $ free1 ! $ free0 ! $
         use1 W (‵ (fres γ (T.the-row .coded .code (r .unit)))) (W .names .obs-res γ (T.the-row .coded .code (r .unit))) $ keep ! (2 ∷ 3 ∷ 0 ∷ 4 ∷ []) $
-        by ! (exits r zs (answer-fits r _ is) e))))))))))))))))))
+        by ! (exits r zs (answer-fits r _ is) e))))))))))))))))))))
 
 module _ {M : Type 1} (𝓤 : URA M) (H : Heap 𝓤) (A : Atoms 𝓤) (W : Given 𝓤 H A) (mem : Memory → SProp 𝓤) (run : Routine → Fun 𝓤) where
   walks : (C : Calls 𝓤 H) (Λ : Loops 𝓤 H) → FmC 𝓤 H (W .laws) C → Triple 𝓤 (C #callee) (Callee 𝓤 H A mem run)
       → Walks 𝓤 H A f.ended stayed (WpFn 𝓤 H C Λ code.function) (f.clauses 𝓤 H A mem run)
   walks C Λ fm known =
       walked 𝓤 H A f.ended stayed (f.clauses 𝓤 H A mem run) (WpFn 𝓤 H C Λ code.function)
-      (λ κs. (uint-vals w64, (uint-vals w64, (ptr-vals, (slice-vals, tt)))))
-      (λ κs. (uint-tells w64, (uint-tells w64, (mut-tells (named 0) (κs .0) T.the-row, (mut-slice-tells (named 1) (κs .1 .0) u64, tt)))))
+      (λ κs. (uint-vals w64, (uint-vals w64, (ptr-vals, (slice-vals, (ptr-vals, tt))))))
+      (λ κs. (uint-tells w64, (uint-tells w64, (mut-tells (named 0) (κs .0) T.the-row, (mut-slice-tells (named 1) (κs .1 .0) u64, (mut-tells (named 2) (κs .1 .1 .0) (Array u64 2), tt))))))
       (λ κs qs bounds a _ are. via 𝓤 _ (fst∗ 𝓤 _ (emp 𝓤))
       (walk 𝓤 H A W mem run
-      (κs .0) (κs .1) (qs .0) (qs .1) (a .1 .1 .0 .ptr .0) (a .1 .1 .0 .ptr .1) (a .1 .1 .0 .name) (a .1 .1 .0 .now) (a .0) (a .1 .0) (a .1 .1 .1 .0) (are .0 .1) (are .1 .0 .1) C Λ fm known
+      (κs .0) (κs .1) (qs .0) (qs .1) (a .1 .1 .0 .ptr .0) (a .1 .1 .0 .ptr .1) (a .1 .1 .0 .name) (a .1 .1 .0 .now) (a .0) (a .1 .0) (a .1 .1 .1 .0) (a .1 .1 .1 .1 .0) (are .0 .1) (are .1 .0 .1) C Λ fm known
       (are .1 .1 .1 .0 .0 .1 .0)))
 
 meets : {M : Type 1} (𝓤 : URA M) (H : Heap 𝓤) (A : Atoms 𝓤) → Given 𝓤 H A → (mem : Memory → SProp 𝓤) (run : Routine → Fun 𝓤) (𝓣 : Tables 𝓤 H)
     → Triple 𝓤 (𝓣 .C #callee) (Callee 𝓤 H A mem run) → Meets 𝓤 H A f.signature (WpFn 𝓤 H (𝓣 .C) (𝓣 .Λ) code.function) (f.spec 𝓤 H A mem run)
 meets 𝓤 H A W mem run 𝓣 known =
-    walk-meets 𝓤 H A f.ended stayed W (all-go 𝓤 H A W 2 (f.signature .params) (f.ended .kept)) (f.clauses 𝓤 H A mem run)
+    walk-meets 𝓤 H A f.ended stayed W (all-go 𝓤 H A W 3 (f.signature .params) (f.ended .kept)) (f.clauses 𝓤 H A mem run)
     (WpFn 𝓤 H (𝓣 .C) (𝓣 .Λ) code.function) (WpFn-mono 𝓤 H (W .laws) 𝓣 code.function) (walks 𝓤 H A W mem run (𝓣 .C) (𝓣 .Λ) (fmOf 𝓤 H (W .laws) 𝓣) known)
 
 pub ridge-fresh-spec : {M : Type 1} → stated.statement M

@@ -68,13 +68,13 @@ same-length : tie.Need-same-length Inv-loop μ-loop
 same-length c = search needs
 
 returns : tie.Need-returns Inv-loop μ-loop
-returns c =
+returns c marks =
     let c₆ = c .before .before .before .before .before .before in
     let a = c₆ .args in
     let l = c .before .loop in
     let e : l .k ≡ a .count = omega arith in
-    let f : readPlaces (a .medium .now) (length (a .owners .now)) (take (l .k) (c .before .before .index-of .result)) ≡ readBlocks (pool (a .owners .now) (a .medium .now)) (a .lba .0) (a .count) =
-    rw e (read-indexed (a .owners .now) (c .before .before .index-of .result) (a .medium .now) (a .lba .0) (a .count) (c .before .before .index-of .ensures)) in
+    let f : readPlaces (a .medium .now) (length (a .owners .now)) (take (l .k) (c .before .before .index-of .result)) ≡ readBlocks (pool (a .owners .now) marks (a .medium .now)) (a .lba .0) (a .count) =
+    rw e (read-indexed (a .owners .now) marks (c .before .before .index-of .result) (a .medium .now) (a .lba .0) (a .count) (c .before .before .index-of .ensures)) in
     l .inv .2 ∙ ap (put (a .out .now) 0) f
 
 pub read-blocks-spec : {M : Type 1} → statement M

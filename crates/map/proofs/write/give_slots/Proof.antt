@@ -1,72 +1,78 @@
--- `give_slots`: what is missing in the index is what is unmapped, and it is held against the free slots.
--- Assumes nothing.
+use mathlib.Core.Path.{_≡_, _∙_, sym, ap}
 use native.Mathlib.Omega.{arith}
-use borrow.Author.Needs.{needs}
+use lib.ListN.{length}
+use Rattle.pool.specs.Marks.{marked}
+use Rattle.pool.proofs.Marking.{length-marksOf, marked-free}
 use Rattle.map.proofs.Indexing.{missing-is}
 use Rattle.map.proofs.Trying.{gave-all, gave-nothing, gave-none}
+use borrow.Author.Needs.{needs}
 use Rattle.map.proofs.write.give_slots.Statement.{statement}
 use Rattle.map.proofs.write.give_slots.Tie as tie
+use Rattle.map.proofs.write.give_slots.Reads as reads
+use Rattle.map.proofs.write.give_slots.Lts as lts
+use Rattle.map.proofs.index.missing_in.Reads as missing-in-reads
+use Rattle.map.proofs.write.assign_blocks.Reads as assign-blocks-reads
+use Rattle.marks.proofs.marked.Reads as marked-reads
 
+-- src/write.rt:62:9
 missing-in-requires : tie.Need-missing-in-requires
 missing-in-requires c κs = search needs
 
+-- src/write.rt:64:9
 same-length : tie.Need-same-length
 same-length c = search needs
 
+-- src/write.rt:64:9
 returns : tie.Need-returns
 returns c =
-    let c₅ = c .before .before .before .before .before in
-    let a = c₅ .args in
-    let m = missing-is (a .owners .now) (a .index .now) (a .lba .0) (a .count) _ (c₅ .pre .2) (c .before .missing-in .ensures) in
-    gave-nothing (a .owners .now) (a .lba .0) (a .count) _ (omega arith) (c₅ .pre .2)
+    let m = missing-is ((c .before .before .before .before .before .before .args .owners) .now) ((c .before .before .before .before .before .before .args .index) .now) ((c .before .before .before .before .before .before .args .lba) .0) ((c .before .before .before .before .before .before .args .count)) _ ((c .before .before .before .before .before .before .pre) .4) ((c .before .missing-in .ensures)) in
+    gave-nothing ((c .before .before .before .before .before .before .args .owners) .now) ((c .before .before .before .before .before .before .args .lba) .0) ((c .before .before .before .before .before .before .args .count)) _ _ (omega arith) ((c .before .before .before .before .before .before .pre) .3) ((c .before .before .before .before .before .before .pre) .4)
 
-lowest-free-requires : tie.Need-lowest-free-requires
-lowest-free-requires c κs = search needs
+-- src/write.rt:66:33
+marked-requires : tie.Need-marked-requires
+marked-requires c κs = ap length ((c .before .before .before .before .before .before .before .pre) .3) ∙ length-marksOf _
 
-free-from-requires : tie.Need-free-from-requires
-free-from-requires c κs = search needs
+-- src/write.rt:66:18
+sub-if2 : tie.Need-sub-if2
+sub-if2 c = omega (arith, marked-free ((c .before .before .before .before .before .before .before .before .args .owners) .now), (c .marked .ensures) ∙ ap marked ((c .before .before .before .before .before .before .before .before .pre) .3))
 
+-- src/write.rt:67:9
 same-length-2 : tie.Need-same-length-2
 same-length-2 c = search needs
 
+-- src/write.rt:67:9
 same-length-3 : tie.Need-same-length-3
 same-length-3 c = search needs
 
+-- src/write.rt:67:9
 returns-2 : tie.Need-returns-2
 returns-2 c =
-    let c₆ = c .before .before .before .before .before .before in
-    let c₁₀ = c₆ .before .before .before .before in
-    let a = c₁₀ .args in
-    let m = missing-is (a .owners .now) (a .index .now) (a .lba .0) (a .count) _ (c₁₀ .pre .2) (c₆ .missing-in .ensures) in
-    gave-none (a .owners .now) (a .lba .0) (a .count) _ (omega (arith, c .before .free-from .ensures))
+    let m = missing-is ((c .before .before .before .before .before .before .before .before .before .args .owners) .now) ((c .before .before .before .before .before .before .before .before .before .args .index) .now) ((c .before .before .before .before .before .before .before .before .before .args .lba) .0) ((c .before .before .before .before .before .before .before .before .before .args .count)) _ ((c .before .before .before .before .before .before .before .before .before .pre) .4) ((c .before .before .before .before .missing-in .ensures)) in
+    gave-none ((c .before .before .before .before .before .before .before .before .before .args .owners) .now) ((c .before .before .before .before .before .before .before .before .before .args .lba) .0) ((c .before .before .before .before .before .before .before .before .before .args .count)) _ _ (omega (arith, marked-free ((c .before .before .before .before .before .before .before .before .before .args .owners) .now), (c .before .marked .ensures) ∙ ap marked ((c .before .before .before .before .before .before .before .before .before .pre) .3))) ((c .before .before .before .before .before .before .before .before .before .pre) .3)
 
+-- src/write.rt:69:5
 assign-blocks-requires : tie.Need-assign-blocks-requires
 assign-blocks-requires c κs =
-    let c₃ = c .before .before .before in
-    let c₅ = c₃ .before .before in
-    let c₈ = c₅ .before .before .before in
-    let c₁₂ = c₈ .before .before .before .before in
-    let a = c₁₂ .args in
-    let p = c₁₂ .pre in
-    let m = missing-is (a .owners .now) (a .index .now) (a .lba .0) (a .count) _ (p .2) (c₈ .missing-in .ensures) in
-    (p .0, p .1, p .2, omega (arith, c₃ .free-from .ensures, c .before .before .if2 .left), omega (arith, c₅ .lowest-free .ensures))
+    let m = missing-is ((c .before .before .before .before .before .before .before .before .before .before .before .before .args .owners) .now) ((c .before .before .before .before .before .before .before .before .before .before .before .before .args .index) .now) ((c .before .before .before .before .before .before .before .before .before .before .before .before .args .lba) .0) ((c .before .before .before .before .before .before .before .before .before .before .before .before .args .count)) _ ((c .before .before .before .before .before .before .before .before .before .before .before .before .pre) .4) ((c .before .before .before .before .before .before .before .missing-in .ensures)) in
+    ((c .before .before .before .before .before .before .before .before .before .before .before .before .pre) .0, (c .before .before .before .before .before .before .before .before .before .before .before .before .pre) .1, (c .before .before .before .before .before .before .before .before .before .before .before .before .pre) .2, (c .before .before .before .before .before .before .before .before .before .before .before .before .pre) .3, (c .before .before .before .before .before .before .before .before .before .before .before .before .pre) .4, omega (arith, (c .before .before .before .if2 .left), marked-free ((c .before .before .before .before .before .before .before .before .before .before .before .before .args .owners) .now), (c .before .before .before .before .marked .ensures) ∙ ap marked ((c .before .before .before .before .before .before .before .before .before .before .before .before .pre) .3)))
 
+-- src/write.rt:48:1
 same-length-4 : tie.Need-same-length-4
 same-length-4 c = search needs
 
+-- src/write.rt:48:1
 same-length-5 : tie.Need-same-length-5
 same-length-5 c = search needs
 
+-- src/write.rt:48:1
+same-length-6 : tie.Need-same-length-6
+same-length-6 c = search needs
+
+-- src/write.rt:48:1
 returns-3 : tie.Need-returns-3
 returns-3 c =
-    let c₄ = c .before .before .before .before in
-    let c₇ = c₄ .before .before .before in
-    let c₁₃ = c₇ .before .before .before .before .before .before in
-    let c₁₇ = c₁₃ .before .before .before .before in
-    let a = c₁₇ .args in
-    let e = c₄ .assign-blocks .ensures in
-    let m = missing-is (a .owners .now) (a .index .now) (a .lba .0) (a .count) _ (c₁₇ .pre .2) (c₁₃ .missing-in .ensures) in
-    gave-all (a .owners .now) (a .lba .0) (a .count) _ _ (omega (arith, c₇ .before .free-from .ensures, c₇ .if2 .left)) (e .0) (e .1)
+    let m = missing-is ((c .before .before .before .before .before .before .before .before .before .before .before .before .before .before .before .before .before .before .before .args .owners) .now) ((c .before .before .before .before .before .before .before .before .before .before .before .before .before .before .before .before .before .before .before .args .index) .now) ((c .before .before .before .before .before .before .before .before .before .before .before .before .before .before .before .before .before .before .before .args .lba) .0) ((c .before .before .before .before .before .before .before .before .before .before .before .before .before .before .before .before .before .before .before .args .count)) _ ((c .before .before .before .before .before .before .before .before .before .before .before .before .before .before .before .before .before .before .before .pre) .4) ((c .before .before .before .before .before .before .before .before .before .before .before .before .before .before .missing-in .ensures)) in
+    gave-all ((c .before .before .before .before .before .before .before .before .before .before .before .before .before .before .before .before .before .before .before .args .owners) .now) ((c .before .before .before .before .before .before .before .before .before .before .before .before .before .before .before .before .before .before .before .args .lba) .0) ((c .before .before .before .before .before .before .before .before .before .before .before .before .before .before .before .before .before .before .before .args .count)) _ _ _ (omega (arith, (c .before .before .before .before .before .before .before .before .before .before .if2 .left), marked-free ((c .before .before .before .before .before .before .before .before .before .before .before .before .before .before .before .before .before .before .before .args .owners) .now), (c .before .before .before .before .before .before .before .before .before .before .before .marked .ensures) ∙ ap marked ((c .before .before .before .before .before .before .before .before .before .before .before .before .before .before .before .before .before .before .before .pre) .3))) ((c .before .before .before .before .before .before .assign-blocks .ensures) .0) ((c .before .before .before .before .before .before .assign-blocks .ensures) .1) ((c .before .before .before .before .before .before .assign-blocks .ensures) .2)
 
 pub give-slots-spec : {M : Type 1} → statement M
 give-slots-spec =
@@ -75,12 +81,13 @@ give-slots-spec =
     missing-in-requires
     same-length
     returns
-    lowest-free-requires
-    free-from-requires
+    marked-requires
+    sub-if2
     same-length-2
     same-length-3
     returns-2
     assign-blocks-requires
     same-length-4
     same-length-5
+    same-length-6
     returns-3)

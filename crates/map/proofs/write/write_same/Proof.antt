@@ -1,60 +1,67 @@
--- `map::write::write_same` meets its contract: the slots given complete the index, by which the block is put.
--- Assumes nothing.
 use native.Mathlib.Omega.{arith}
-use borrow.Author.Needs.{needs}
 use borrow.Author.Tests.{not-true, not-false}
 use Rattle.pool.specs.Pool.{pool, copies}
 use Rattle.map.proofs.Trying.{gave-size, gave-below, try-full, try-done}
+use borrow.Author.Needs.{needs}
 use Rattle.map.proofs.write.write_same.Statement.{statement}
 use Rattle.map.proofs.write.write_same.Tie as tie
+use Rattle.map.proofs.write.write_same.Reads as reads
+use Rattle.map.proofs.write.write_same.Lts as lts
+use Rattle.map.proofs.index.index_of.Reads as index-of-reads
+use Rattle.map.proofs.write.give_slots.Reads as give-slots-reads
+use Rattle.map.proofs.write.put_same.Reads as put-same-reads
 
+-- src/write.rt:157:21
 index-of-requires : tie.Need-index-of-requires
 index-of-requires c κs = search needs
 
+-- src/write.rt:159:35
 slice-aggregate-give-slots : tie.Need-slice-aggregate-give-slots
 slice-aggregate-give-slots c = search needs
 
+-- src/write.rt:159:9
 give-slots-requires : tie.Need-give-slots-requires
 give-slots-requires c κs = search needs
 
+-- src/write.rt:160:9
 same-length : tie.Need-same-length
 same-length c = search needs
 
-returns : tie.Need-returns
-returns c =
-    let c₄ = c .before .before .before .before in
-    let c₁₂ = c₄ .before .before .before .before .before .before .before .before in
-    let a = c₁₂ .args in
-    try-full (pool (a .owners .now) (a .medium .now)) (a .lba .0) (a .count) (copies (a .count) (a .block .now)) _ _ _ (c₄ .give-slots .ensures) (not-true _ (c .if1 .taken))
-
-slice-aggregate-put-same : tie.Need-slice-aggregate-put-same
-slice-aggregate-put-same c = search needs
-
-put-same-requires : tie.Need-put-same-requires
-put-same-requires c κs =
-    let c₂ = c .before .before in
-    let c₆ = c₂ .before .before .before .before in
-    let c₁₄ = c₆ .before .before .before .before .before .before .before .before in
-    let a = c₁₄ .args in
-    let p = c₁₄ .pre in
-    let g = c₆ .give-slots .ensures in
-    let t = not-false _ (c₂ .if1 .left) in
-    let s = gave-size (a .owners .now) (a .lba .0) (a .count) _ _ _ g t in
-    (omega (arith, p .0), p .2, omega (arith, p .0, s), p .3, p .4, gave-below (a .owners .now) (a .lba .0) (a .count) _ _ _ g t)
-
+-- src/write.rt:160:9
 same-length-2 : tie.Need-same-length-2
 same-length-2 c = search needs
 
+-- src/write.rt:160:9
+returns : tie.Need-returns
+returns c = try-full (pool ((c .before .before .before .before .before .before .before .before .before .before .before .before .before .before .before .before .args .owners) .now) ((c .before .before .before .before .before .before .before .before .before .before .before .before .before .before .before .before .args .marks) .now) ((c .before .before .before .before .before .before .before .before .before .before .before .before .before .before .before .before .args .medium) .now)) ((c .before .before .before .before .before .before .before .before .before .before .before .before .before .before .before .before .args .lba) .0) ((c .before .before .before .before .before .before .before .before .before .before .before .before .before .before .before .before .args .count)) (copies ((c .before .before .before .before .before .before .before .before .before .before .before .before .before .before .before .before .args .count)) ((c .before .before .before .before .before .before .before .before .before .before .before .before .before .before .before .before .args .block) .now)) _ _ _ _ ((c .before .before .before .before .before .before .give-slots .ensures)) ((c .before .before .before .before .before .before .before .before .before .before .before .before .before .before .before .before .pre) .3) (not-true _ ((c .if1 .taken)))
+
+-- src/write.rt:162:22
+slice-aggregate-put-same : tie.Need-slice-aggregate-put-same
+slice-aggregate-put-same c = search needs
+
+-- src/write.rt:162:5
+put-same-requires : tie.Need-put-same-requires
+put-same-requires c κs =
+    let g = (c .before .before .before .before .before .before .before .before .give-slots .ensures) in
+    let t = not-false _ ((c .before .before .if1 .left)) in
+    let s = gave-size ((c .before .before .before .before .before .before .before .before .before .before .before .before .before .before .before .before .before .before .args .owners) .now) ((c .before .before .before .before .before .before .before .before .before .before .before .before .before .before .before .before .before .before .args .lba) .0) ((c .before .before .before .before .before .before .before .before .before .before .before .before .before .before .before .before .before .before .args .count)) _ _ _ _ g t in
+    (omega (arith, (c .before .before .before .before .before .before .before .before .before .before .before .before .before .before .before .before .before .before .pre) .0), (c .before .before .before .before .before .before .before .before .before .before .before .before .before .before .before .before .before .before .pre) .2, omega (arith, (c .before .before .before .before .before .before .before .before .before .before .before .before .before .before .before .before .before .before .pre) .0, s), (c .before .before .before .before .before .before .before .before .before .before .before .before .before .before .before .before .before .before .pre) .4, (c .before .before .before .before .before .before .before .before .before .before .before .before .before .before .before .before .before .before .pre) .5, gave-below ((c .before .before .before .before .before .before .before .before .before .before .before .before .before .before .before .before .before .before .args .owners) .now) ((c .before .before .before .before .before .before .before .before .before .before .before .before .before .before .before .before .before .before .args .lba) .0) ((c .before .before .before .before .before .before .before .before .before .before .before .before .before .before .before .before .before .before .args .count)) _ _ _ _ g t)
+
+-- src/write.rt:140:1
 same-length-3 : tie.Need-same-length-3
 same-length-3 c = search needs
 
+-- src/write.rt:140:1
+same-length-4 : tie.Need-same-length-4
+same-length-4 c = search needs
+
+-- src/write.rt:140:1
+same-length-5 : tie.Need-same-length-5
+same-length-5 c = search needs
+
+-- src/write.rt:140:1
 returns-2 : tie.Need-returns-2
-returns-2 c =
-    let c₅ = c .before .before .before .before .before in
-    let c₉ = c₅ .before .before .before .before in
-    let c₁₇ = c₉ .before .before .before .before .before .before .before .before in
-    let a = c₁₇ .args in
-    try-done (pool (a .owners .now) (a .medium .now)) (a .lba .0) (a .count) (copies (a .count) (a .block .now)) _ _ _ (c₉ .give-slots .ensures) _ (not-false _ (c₅ .if1 .left)) (c .before .before .put-same .ensures)
+returns-2 c = try-done (pool ((c .before .before .before .before .before .before .before .before .before .before .before .before .before .before .before .before .before .before .before .before .before .args .owners) .now) ((c .before .before .before .before .before .before .before .before .before .before .before .before .before .before .before .before .before .before .before .before .before .args .marks) .now) ((c .before .before .before .before .before .before .before .before .before .before .before .before .before .before .before .before .before .before .before .before .before .args .medium) .now)) ((c .before .before .before .before .before .before .before .before .before .before .before .before .before .before .before .before .before .before .before .before .before .args .lba) .0) ((c .before .before .before .before .before .before .before .before .before .before .before .before .before .before .before .before .before .before .before .before .before .args .count)) (copies ((c .before .before .before .before .before .before .before .before .before .before .before .before .before .before .before .before .before .before .before .before .before .args .count)) ((c .before .before .before .before .before .before .before .before .before .before .before .before .before .before .before .before .before .before .before .before .before .args .block) .now)) _ _ _ _ ((c .before .before .before .before .before .before .before .before .before .before .before .give-slots .ensures)) _ (not-false _ ((c .before .before .before .before .before .if1 .left))) ((c .before .before .put-same .ensures))
 
 pub write-same-spec : {M : Type 1} → statement M
 write-same-spec =
@@ -64,9 +71,11 @@ write-same-spec =
     slice-aggregate-give-slots
     give-slots-requires
     same-length
+    same-length-2
     returns
     slice-aggregate-put-same
     put-same-requires
-    same-length-2
     same-length-3
+    same-length-4
+    same-length-5
     returns-2)

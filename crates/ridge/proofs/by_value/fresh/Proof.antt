@@ -1,5 +1,3 @@
--- `by_value::fresh` meets its contract.
--- Assumes nothing.
 use Rattle.ridge.proofs.InterfaceLaws.{freshens}
 use borrow.Author.Needs.{needs}
 use Rattle.ridge.proofs.by_value.fresh.Statement.{statement}
@@ -10,27 +8,27 @@ use Rattle.answers.proofs.number_of.Reads as number-of-reads
 use Rattle.commands.proofs.fresh.Reads as fresh-reads
 use Rattle.ridge.proofs.by_value.if_good.Reads as if-good-reads
 
--- src/by_value.rt:33:9
+-- src/by_value.rt:40:9
 fresh-requires : tie.Need-fresh-requires
 fresh-requires c κs = search needs
 
--- src/by_value.rt:37:15
+-- src/by_value.rt:44:15
 if-good-requires : tie.Need-if-good-requires
 if-good-requires c κs = search needs
 
--- src/by_value.rt:38:17
+-- src/by_value.rt:45:17
 number-of-requires : tie.Need-number-of-requires
 number-of-requires c κs = search needs
 
--- src/by_value.rt:29:1
+-- src/by_value.rt:30:1
 same-length : tie.Need-same-length
 same-length c = search needs
 
--- src/by_value.rt:29:1
+-- src/by_value.rt:30:1
 returns : tie.Need-returns
 returns c =
-    rw (c .number-of .ensures, c .before .if-good .ensures)
-    (freshens _ _ _ _ (c .before .before .before .before .before .fresh .result) _ (c .before .before .before .before .before .fresh .ensures))
+    rw ((c .number-of .ensures), (c .before .if-good .ensures))
+    (freshens _ _ _ _ _ ((c .before .before .before .before .before .fresh .result)) _ _ ((c .before .before .before .before .before .fresh .ensures)))
 
 pub fresh-spec : {M : Type 1} → statement M
 fresh-spec =

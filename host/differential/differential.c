@@ -14,7 +14,7 @@
  * changes nothing stored, nor does a command that only asks; sense is written
  * for the answers 1 to 8 and 13 only, data-in not past the returned bytes, CDB,
  * data-out and guards never; 11 for each of the reasons that come first in 01's
- * order).
+ * order, and else for the length of the CDB alone).
  *
  * Stores are of both formats of sense, and all bytes lent for it are compared.
  * It holds random bytes before a call, or what an answer 2, 3, 5 or 8 left
@@ -69,7 +69,7 @@ enum {
     ROWS = 14,          /* commands that are counted apart */
     NOTICES = 13,       /* of 100 calls, those that others must know of, */
     ATTENDED = 7,       /* those of one for whom something waits */
-    ROOMS = 8,          /* and those that take or free slots at an end */
+    ROOMS = 9,          /* and those that take or free slots at an end */
     RENEWED = 6,        /* of 100 calls, those before which others register */
     FAULTY = 30,        /* of 100 on damaged stores, those with a fault too */
     ASKED = 45          /* of 100 on many slots, those before room is asked */
@@ -549,14 +549,34 @@ static void hold_room(struct run *run)
         hold_unchanged(run, part, told ? lending->bytes[part] : 0);
 }
 
+/* The length of the CDB, by the group of its code; those that are listed are of
+   these groups. */
+static size_t cdb_wanted(uint8_t code)
+{
+    return code < 0x20 ? 6 : code < 0x60 ? 10 : 16;
+}
+
+/* When 11 is answered. A store that is whole, and lent by a call that is known
+   to be usable, leaves one reason for it. */
+static void hold_11(struct run *run)
+{
+    const struct lending *lending = &run->lending;
+    bool answered = run->ridge.answer == RIDGE_UNUSABLE;
+
+    if (lending->due_11 && !answered)
+        fail(run, "another answer where 11 is due");
+    if (answered && lending->whole && !lending->due_11 &&
+        lending->bytes[CDB] == cdb_wanted(run->before.cdb[0]))
+        fail(run, "11 where nothing is unusable");
+}
+
 /* What 01 says of every call, whichever command it is. */
 static void hold_rules(struct run *run)
 {
     bool good = run->ridge.answer == RIDGE_GOOD;
     bool told = run->ridge.answer == RIDGE_ATTENTION;
 
-    if (run->lending.due_11 && run->ridge.answer != RIDGE_UNUSABLE)
-        fail(run, "another answer where 11 is due");
+    hold_11(run);
     if (!good && run->ridge.returned != 0)
         fail(run, "bytes returned on a refusal");
     if (run->ridge.returned > run->lending.bytes[DATA_IN])

@@ -1846,14 +1846,16 @@ static uint64_t served_nexus(struct random *random,
     return nexus;
 }
 
+/* All slots that are free, or one more, or one or two of them. */
 static void make_taking(struct random *random, const struct store *store,
                         struct request *request)
 {
     bool same = random_percent(random, 60);
-    uint64_t address;
-    uint64_t count;
+    uint64_t free = free_slots(store);
+    uint64_t wanted = RANDOM_CHOICE(random, free, free, free + 1, 1, 2);
+    uint64_t address = address_within(random, store->unit.capacity);
+    uint64_t count = count_of_unmapped(store, address, wanted);
 
-    tight_range(random, store, &address, &count);
     start_cdb(random, request, same ? 0x93 : 0x8A, 16);
     request->cdb[1] &= same ? 0x07 : 0x1F;
     put_range(request, address, count);

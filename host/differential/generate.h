@@ -163,9 +163,9 @@ uint64_t generate_waiting(struct random *random, const struct ridge_unit *unit);
 bool generate_attended(struct random *random, const struct store *store,
                        struct request *request);
 
-/* A call that takes the last free slots, or wants one more, or that frees slots
-   at an end of the pool or of a word of marks; mostly by a nexus that no
-   reservation stops and for which nothing waits. */
+/* A call that takes free slots, the first of them or all, or wants one more, or
+   that frees slots at an end of the pool or of a word of marks; mostly by a
+   nexus that no reservation stops and for which nothing waits. */
 void generate_room(struct random *random, const struct store *store,
                    struct request *request);
 

@@ -128,9 +128,10 @@ pub fn room(format: u64, unit: Unit, owners: &[u64], marks: &[u64], medium: &[u8
             lowest: 0,
         };
     }
-    let slot = marks::lowest(marks);
+    let words = marks::words_of(marks);
+    let slot = marks::lowest(words);
     let lowest = slot.0 as u64;
-    let free = (owners.len() - marks::marked(marks)) as u64;
+    let free = (owners.len() - marks::marked(words)) as u64;
     Room {
         answer: Answer::Good,
         free,

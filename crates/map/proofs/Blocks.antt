@@ -258,17 +258,18 @@ module _ (o₀ : List ℕ) (a count : ℕ) (o marks index : List ℕ) (k : ℕ)
     pub give-below : (r : ℕ) → r ≡ lowest marks → r < length o
     give-below r e = let b = below in let l = lowest-is in omega arith
 
-    pub give-one : (r : ℕ) → r ≡ lowest marks
-        → Given o₀ a count (set o r (a + k + 1)) (withMark marks r) (set index k r) (k + 1)
-    give-one r e =
+    pub give-one : (r : ℕ) (marks′ : List ℕ) → r ≡ lowest marks → marks′ ≡ withMark marks (lowest marks)
+        → Given o₀ a count (set o r (a + k + 1)) marks′ (set index k r) (k + 1)
+    give-one r marks′ e m′ =
         let z : a + k + 1 ≢ 0 = λ q. omega arith in
         let p : r ≡ place 0 o = e ∙ lowest-is in
         let f : set o r (a + k + 1) ≡ fill (suc (a + k)) o = rw (p, add-one (a + k)) (sym (fill-set (suc (a + k)) o)) in
         let i : take count (set index k r) ≡ places (set o r (a + k + 1)) a count =
         take-set-lt count index k r h
         ∙ rw (f, p, g .indexed .each) (sym (places-fill o a count k h has-not)) in
-        give-next _ _ _ (f ∙ sym (assign-new o (a + k) has-not)) (record { size = length-set index k r ∙ g .indexed .size; each = i })
-        (rw (g .marked) (marks-put o r (g .few) (give-below r e) (a + k + 1) z))
+        let w : withMark marks (lowest marks) ≡ marksOf (set o r (a + k + 1)) =
+        rw (← e, g .marked) (marks-put o r (g .few) (give-below r e) (a + k + 1) z) in
+        give-next _ _ _ (f ∙ sym (assign-new o (a + k) has-not)) (record { size = length-set index k r ∙ g .indexed .size; each = i }) (m′ ∙ w)
 
 pub give-done : (o₀ : List ℕ) (a count : ℕ) (o marks index : List ℕ) (k : ℕ) → Given o₀ a count o marks index k → count ≡ k
     → o ≡ assignBlocks o₀ a count

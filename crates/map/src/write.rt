@@ -26,16 +26,20 @@ fn assign_blocks(owners: &mut [u64], marks: &mut [u64], index: &mut [usize], lba
 {
     let a = lba.0;
     let n = owners.len();
+    let mut words = marks::words_of(marks);
     for k in 0..count {
         if index[k] < n {
             continue;
         }
-        let slot = marks::lowest(marks);
+        let taken = marks::take(words);
+        let slot = taken.slot;
         let at = slot.0;
         owners[at] = a + (k as u64) + 1;
-        marks::put(marks, slot);
         index[k] = at;
+        let marked = taken.words;
+        words = marked;
     }
+    marks::put_words(marks, words);
 }
 
 // Slots for all blocks of the range or, where too few are free, for none; and whether they have them. How many are free is read off the marks.
@@ -57,7 +61,8 @@ fn give_slots(
     if missing == 0 {
         return true;
     }
-    if missing > owners.len() - marks::marked(marks) {
+    let words = marks::words_of(marks);
+    if missing > owners.len() - marks::marked(words) {
         return false;
     }
     assign_blocks(owners, marks, index, lba, count);

@@ -1,19 +1,23 @@
 -- The volume: the map as a product of its own. "it stands without the command decoder": what each entry point answers, and what it leaves.
 -- Assumes nothing.
+use mathlib.Core.Path.{_≡_}
 use mathlib.Core.Bool.{Bool, true, false, not}
 use mathlib.Core.List.{List, [], _∷_}
+use mathlib.Core.Logic.{_≢_}
 use Prim.Native.Nat.{ℕ, _+_, _*_}
-use lib.Dec.{eqb, ltb}
+use lib.Dec.{T, eqb, ltb}
 use lib.ListN.{length}
 use Rattle.fields.specs.Bytes.{put, zeros}
 use Rattle.order.specs.Order.{Row, _if_, firstOf, nextBy, ifGoodBy}
-use Rattle.pool.specs.Bounds.{mostTransfer, blockBytes}
-use Rattle.pool.specs.Pool.{Pool, pool, readBlocks, writeBlocks, roomFor, unmapOwners}
-use Rattle.pool.specs.Valid.{capacityOk, slotsOk, checked}
+use Rattle.pool.specs.Bounds.{mostTransfer, blockBytes, markWords}
+use Rattle.pool.specs.Marks.{marksOf, marksOk}
+use Rattle.pool.specs.Pool.{Pool, pool, place, free, readBlocks, writeBlocks, roomFor, unmapBlocks}
+use Rattle.pool.specs.Valid.{capacityOk, slotsOk, mapOk, checked}
 use Rattle.pool.specs.declared.Checked.{Checked}
 use Rattle.pool.specs.declared.Checked.the-variants.{Valid, Beyond, Clash}
+use Rattle.volume.specs.declared.FreeRoom.{FreeRoom}
 use Rattle.volume.specs.declared.Mapped.{Mapped}
-use Rattle.volume.specs.declared.Mapped.the-variants.{Done, BadBounds, Invalid, TooMany, OutOfRange, Short, NoRoom}
+use Rattle.volume.specs.declared.Mapped.the-variants.{Done, BadBounds, Invalid, Mismarked, TooMany, OutOfRange, Short, NoRoom}
 
 -- ---- the order of tests
 
@@ -22,6 +26,7 @@ unfoldable pub refuses : Mapped → Bool
 refuses Done = false
 refuses BadBounds = true
 refuses (Invalid c) = true
+refuses Mismarked = true
 refuses TooMany = true
 refuses OutOfRange = true
 refuses Short = true
@@ -49,12 +54,14 @@ wrong (Clash s t) = true
 unfoldable pub bounds : ℕ → ℕ → Mapped
 bounds capacity slots = first (BadBounds if not (capacityOk capacity) ∷ BadBounds if not (slotsOk slots) ∷ [])
 
--- "medium not 512 x slots bytes, invalid state"
+-- "medium not 512 x slots bytes, invalid state"; Q-7: "A mark without its owner, an owner without its mark, or a mark beyond the slots makes
+-- the state invalid."
 unfoldable pub sound : ℕ → Pool → Mapped
 sound capacity p =
     first
     (BadBounds if not (eqb (length (p .medium)) (blockBytes * length (p .owners)))
     ∷ Invalid (checked capacity (p .owners)) if wrong (checked capacity (p .owners))
+    ∷ Mismarked if not (marksOk (p .owners) (p .marks))
     ∷ [])
 
 -- of every call that has a pool
@@ -94,8 +101,8 @@ pub record Wrote : Type 0 where
   pub answer : Mapped
   pub after : Pool
 
-abbrev pub wrote : Mapped → List ℕ → List ℕ → Wrote
-wrote answer owners medium = record { answer = answer; after = pool owners medium }
+abbrev pub wrote : Mapped → List ℕ → List ℕ → List ℕ → Wrote
+wrote answer owners marks medium = record { answer = answer; after = pool owners marks medium }
 
 -- after the tests of a read: "more unmapped blocks in a write than free slots"
 unfoldable pub writeAnswer : ℕ → Pool → ℕ → ℕ → ℕ → Mapped
@@ -111,20 +118,57 @@ writeOf capacity p a n bytes =
 pub record Left : Type 0 where
   pub answer : Mapped
   pub owners : List ℕ
+  pub marks : List ℕ
 
-abbrev pub left : Mapped → List ℕ → Left
-left answer owners = record { answer = answer; owners = owners }
+abbrev pub left : Mapped → List ℕ → List ℕ → Left
+left answer owners marks = record { answer = answer; owners = owners; marks = marks }
+
+-- of a pool, all but the medium, which is not theirs to change
+abbrev pub leftOf : Mapped → Pool → Left
+leftOf answer p = left answer (p .owners) (p .marks)
 
 -- "block address + count > capacity"
 unfoldable pub unmapAnswer : ℕ → Pool → ℕ → ℕ → Mapped
 unmapAnswer capacity p a n = next (usable capacity p) (first (OutOfRange if ltb capacity (a + n) ∷ []))
 
--- the slots of the range are freed; a refusal leaves them
+-- the slots of the range are freed and lose their marks; a refusal leaves them
 unfoldable pub unmapOf : ℕ → Pool → ℕ → ℕ → Left
 unmapOf capacity p a n =
-    left (unmapAnswer capacity p a n) (ifDone (unmapAnswer capacity p a n) (unmapOwners (p .owners) a n) (p .owners))
+    leftOf (unmapAnswer capacity p a n) (ifDone (unmapAnswer capacity p a n) (unmapBlocks p a n) p)
 
--- "A fresh store has no mapping"; bad bounds leave all
-unfoldable pub freshOf : ℕ → List ℕ → Left
-freshOf capacity owners =
-    left (bounds capacity (length owners)) (ifDone (bounds capacity (length owners)) (zeros (length owners)) owners)
+-- after the bounds of the rest, that of the marks. Q-7: "two 64-bit words"
+unfoldable pub freshAnswer : ℕ → ℕ → ℕ → Mapped
+freshAnswer capacity slots words = next (bounds capacity slots) (first (BadBounds if not (eqb words markWords) ∷ []))
+
+-- "A fresh store has no mapping", and no slot has a mark, whatever the marks were; bad bounds leave all
+unfoldable pub freshOf : ℕ → List ℕ → List ℕ → Left
+freshOf capacity owners marks =
+    left
+    (freshAnswer capacity (length owners) (length marks))
+    (ifDone (freshAnswer capacity (length owners) (length marks)) (zeros (length owners)) owners)
+    (ifDone (freshAnswer capacity (length owners) (length marks)) (zeros markWords) marks)
+
+-- ---- the room
+
+-- Q-7: "the free count is read off the marks, and so is the lowest free slot. Both equal what a full walk over the owners says": how many slots
+-- are free, and the lowest, which is as many as there are slots where none is
+unfoldable pub roomOf : ℕ → Pool → FreeRoom
+roomOf capacity p = record {
+  answer = usable capacity p;
+  free = ifDone (usable capacity p) (free (p .owners)) 0;
+  lowest = ifDone (usable capacity p) (place 0 (p .owners)) 0;
+}
+
+-- ---- what the laws speak of
+
+-- a pool whose bounds and owners are right, whatever its marks
+pub record RightOwners (capacity : ℕ) (p : Pool) : Type 0 where
+  pub some : T (capacityOk capacity)
+  pub slots : T (slotsOk (length (p .owners)))
+  pub whole : length (p .medium) ≡ blockBytes * length (p .owners)
+  pub valid : T (mapOk capacity (p .owners))
+
+-- one whose marks alone are wrong
+pub record WrongMarks (capacity : ℕ) (p : Pool) : Type 0 where
+  pub right : RightOwners capacity p
+  pub differ : p .marks ≢ marksOf (p .owners)

@@ -1,11 +1,13 @@
 // The volume: the map as a product of its own. Entry points that take any input, test it in one order and say what was wrong.
-// The order: bounds (capacity, slots, medium), the map, then for a read or a write too many blocks, the range, the bytes lent, the room.
+// The order: bounds (capacity, slots, medium), the owners, the marks, then for a read or a write too many blocks, the range, the bytes lent,
+// the room.
 ghost use mathlib.Core.Path.{_≡_};
 ghost use Rattle.pool.specs.Pool.{pool};
 ghost use Rattle.volume.specs.Volume as Volume;
 use pool::BLOCK_BYTES;
 use pool::Checked;
 use pool::Lba;
+use pool::MARK_WORDS;
 use pool::MOST_BLOCKS;
 use pool::MOST_SLOTS;
 use pool::MOST_TRANSFER;
@@ -15,10 +17,18 @@ pub enum Mapped {
     Done,
     BadBounds,
     Invalid(Checked),
+    Mismarked,
     TooMany,
     OutOfRange,
     Short,
     NoRoom,
+}
+
+// The room of a pool: how many slots are free, and the lowest of them or, where none is, how many slots there are. A refusal has 0 and 0.
+pub struct FreeRoom {
+    pub answer: Mapped,
+    pub free: usize,
+    pub lowest: usize,
 }
 
 // Capacity and slots within their bounds.
@@ -34,9 +44,10 @@ fn bounded(capacity: u64, slots: usize) -> Mapped
     Mapped::Done
 }
 
-// What is tested of every call that has a pool.
-fn usable(capacity: u64, owners: &[u64], medium: &[u8]) -> Mapped
-    ensures { λ r. ⌜ r ≡ Volume.usable capacity (pool (now (owners .entry)) (now (medium .entry))) ⌝ }
+// What is tested of every call that has a pool. One pass tells whether owners and marks are right; what is wrong is looked for only where
+// something is: with the owners, and where nothing is with them, it is the marks.
+fn usable(capacity: u64, owners: &[u64], marks: &[u64], medium: &[u8]) -> Mapped
+    ensures { λ r. ⌜ r ≡ Volume.usable capacity (pool (now (owners .entry)) (now (marks .entry)) (now (medium .entry))) ⌝ }
 {
     let slots = owners.len();
     let bounds = bounded(capacity, slots);
@@ -46,8 +57,11 @@ fn usable(capacity: u64, owners: &[u64], medium: &[u8]) -> Mapped
     if medium.len() != BLOCK_BYTES * slots {
         return Mapped::BadBounds;
     }
+    if audit::sound(capacity, owners, marks) {
+        return Mapped::Done;
+    }
     match audit::check(capacity, owners) {
-        Checked::Valid => Mapped::Done,
+        Checked::Valid => Mapped::Mismarked,
         Checked::Beyond(s) => Mapped::Invalid(Checked::Beyond(s)),
         Checked::Clash(s, t) => Mapped::Invalid(Checked::Clash(s, t)),
     }
@@ -74,15 +88,16 @@ fn transfer(capacity: u64, lba: Lba, count: usize, lent: usize) -> Mapped
 pub fn read(
     capacity: u64,
     owners: &[u64],
+    marks: &[u64],
     medium: &[u8],
     lba: Lba,
     count: usize,
     out: &mut [u8],
 ) -> Mapped
     ensures { λ r. ⌜ Volume.read r (now (out .exit))
-        ≡ Volume.readOf capacity (pool (now (owners .entry)) (now (medium .entry))) (lba .0) count (now (out .entry)) ⌝ }
+        ≡ Volume.readOf capacity (pool (now (owners .entry)) (now (marks .entry)) (now (medium .entry))) (lba .0) count (now (out .entry)) ⌝ }
 {
-    let pool = usable(capacity, owners, medium);
+    let pool = usable(capacity, owners, marks, medium);
     let Mapped::Done = pool else {
         return pool;
     };
@@ -98,15 +113,16 @@ pub fn read(
 pub fn write(
     capacity: u64,
     owners: &mut [u64],
+    marks: &mut [u64],
     medium: &mut [u8],
     lba: Lba,
     count: usize,
     bytes: &[u8],
 ) -> Mapped
-    ensures { λ r. ⌜ Volume.wrote r (now (owners .exit)) (now (medium .exit))
-        ≡ Volume.writeOf capacity (pool (now (owners .entry)) (now (medium .entry))) (lba .0) count (now (bytes .entry)) ⌝ }
+    ensures { λ r. ⌜ Volume.wrote r (now (owners .exit)) (now (marks .exit)) (now (medium .exit))
+        ≡ Volume.writeOf capacity (pool (now (owners .entry)) (now (marks .entry)) (now (medium .entry))) (lba .0) count (now (bytes .entry)) ⌝ }
 {
-    let pool = usable(capacity, owners, medium);
+    let pool = usable(capacity, owners, marks, medium);
     let Mapped::Done = pool else {
         return pool;
     };
@@ -114,7 +130,7 @@ pub fn write(
     let Mapped::Done = call else {
         return call;
     };
-    if map::write::write_blocks(owners, medium, lba, count, bytes) {
+    if map::write::write_blocks(owners, marks, medium, lba, count, bytes) {
         Mapped::Done
     } else {
         Mapped::NoRoom
@@ -122,11 +138,18 @@ pub fn write(
 }
 
 // The slots of the range are freed and their bytes stay; a refusal leaves all.
-pub fn unmap(capacity: u64, owners: &mut [u64], medium: &[u8], lba: Lba, count: u64) -> Mapped
-    ensures { λ r. ⌜ Volume.left r (now (owners .exit))
-        ≡ Volume.unmapOf capacity (pool (now (owners .entry)) (now (medium .entry))) (lba .0) count ⌝ }
+pub fn unmap(
+    capacity: u64,
+    owners: &mut [u64],
+    marks: &mut [u64],
+    medium: &[u8],
+    lba: Lba,
+    count: u64,
+) -> Mapped
+    ensures { λ r. ⌜ Volume.left r (now (owners .exit)) (now (marks .exit))
+        ≡ Volume.unmapOf capacity (pool (now (owners .entry)) (now (marks .entry)) (now (medium .entry))) (lba .0) count ⌝ }
 {
-    let pool = usable(capacity, owners, medium);
+    let pool = usable(capacity, owners, marks, medium);
     let Mapped::Done = pool else {
         return pool;
     };
@@ -134,18 +157,47 @@ pub fn unmap(capacity: u64, owners: &mut [u64], medium: &[u8], lba: Lba, count: 
     if a > capacity || count > capacity - a {
         return Mapped::OutOfRange;
     }
-    map::unmap::unmap_blocks(owners, lba, count);
+    map::unmap::unmap_blocks(owners, marks, lba, count);
     Mapped::Done
 }
 
-// No slot holds a block. The medium is neither taken nor touched.
-pub fn fresh(capacity: u64, owners: &mut [u64]) -> Mapped
-    ensures { λ r. ⌜ Volume.left r (now (owners .exit)) ≡ Volume.freshOf capacity (now (owners .entry)) ⌝ }
+// No slot holds a block, and none is marked. The medium is neither taken nor touched.
+pub fn fresh(capacity: u64, owners: &mut [u64], marks: &mut [u64]) -> Mapped
+    ensures { λ r. ⌜ Volume.left r (now (owners .exit)) (now (marks .exit))
+        ≡ Volume.freshOf capacity (now (owners .entry)) (now (marks .entry)) ⌝ }
 {
     let bounds = bounded(capacity, owners.len());
     let Mapped::Done = bounds else {
         return bounds;
     };
+    if marks.len() != MARK_WORDS {
+        return Mapped::BadBounds;
+    }
     map::slots::free_all(owners);
+    marks::clear_all(marks);
     Mapped::Done
+}
+
+// How many slots are free and which is the lowest, read off the marks. Nothing changes.
+pub fn room(capacity: u64, owners: &[u64], marks: &[u64], medium: &[u8]) -> FreeRoom
+    ensures { λ r. ⌜ r ≡ Volume.roomOf capacity (pool (now (owners .entry)) (now (marks .entry)) (now (medium .entry))) ⌝ }
+{
+    let pool = usable(capacity, owners, marks, medium);
+    let Mapped::Done = pool else {
+        return FreeRoom {
+            answer: pool,
+            free: 0,
+            lowest: 0,
+        };
+    };
+    let words = marks::words_of(marks);
+    let slot = marks::lowest(words);
+    let lowest = slot.0;
+    let used = marks::marked(words);
+    let free = owners.len() - used;
+    FreeRoom {
+        answer: Mapped::Done,
+        free,
+        lowest,
+    }
 }

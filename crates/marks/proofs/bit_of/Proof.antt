@@ -1,4 +1,4 @@
-use Rattle.marks.proofs.Words.{bit-fits}
+use Rattle.marks.proofs.Apart.{bit-fits}
 use borrow.Author.Needs.{needs}
 use Rattle.marks.proofs.bit_of.Statement.{statement}
 use Rattle.marks.proofs.bit_of.Tie as tie

@@ -1,4 +1,4 @@
-use Rattle.marks.proofs.Words.{cleared-two}
+use Rattle.marks.proofs.Apart.{cleared-two}
 use borrow.Author.Needs.{needs}
 use Rattle.marks.proofs.clear_all.Statement.{statement}
 use Rattle.marks.proofs.clear_all.Tie as tie

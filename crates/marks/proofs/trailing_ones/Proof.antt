@@ -1,4 +1,4 @@
-use Rattle.marks.proofs.Words.{trailing-is, zeros-most}
+use Rattle.marks.proofs.Apart.{trailing-is, zeros-most}
 use native.Mathlib.Omega.{arith}
 use borrow.Author.Needs.{needs}
 use Rattle.marks.proofs.trailing_ones.Statement.{statement}

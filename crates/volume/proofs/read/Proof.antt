@@ -1,12 +1,10 @@
 -- `read`: a refusal leaves what was lent, and what passes the tests is what `read_blocks` asks.
 -- Assumes nothing.
-use mathlib.Core.Path.{_≡_, _∙_, sym}
 use lib.ListN.{length}
 use borrow.Author.Needs.{needs}
 use Rattle.pool.specs.Pool.{pool}
-use Rattle.volume.specs.declared.Mapped.the-variants.{Done}
-use Rattle.volume.specs.Volume.{usable, transfer}
-use Rattle.volume.proofs.Answering.{refused, may-move, read-unusable, read-refused, read-done}
+use Rattle.volume.specs.Volume.{usable}
+use Rattle.volume.proofs.Answering.{refused, so-done, may-move, read-unusable, read-refused, read-done}
 use Rattle.volume.proofs.read.Statement.{statement}
 use Rattle.volume.proofs.read.Tie as tie
 
@@ -18,8 +16,9 @@ enum-told c = search needs
 
 returns : tie.Need-returns
 returns c =
-    let a = (c .before .before .before .before .before .args) in
-    read-unusable (a .capacity) (pool (a .owners .now) (a .medium .now)) (a .lba .0) (a .count) _ _ (c .before .usable .ensures) (refused _ (c .match .keys2))
+    let c₆ = c .before .before .before .before .before .before in
+    let a = c₆ .args in
+    read-unusable (a .capacity) (pool (a .owners .now) (a .marks .now) (a .medium .now)) (a .lba .0) (a .count) _ _ (c .before .usable .ensures) (refused _ (c .match .keys2))
 
 transfer-requires : tie.Need-transfer-requires
 transfer-requires c κs = search needs
@@ -29,20 +28,20 @@ enum-told-2 c = search needs
 
 returns-2 : tie.Need-returns-2
 returns-2 c =
-    let c₈ = c .before .before .before .before .before .before .before .before in
-    let a = c₈ .args in
-    let p = pool (a .owners .now) (a .medium .now) in
-    let u : usable (a .capacity) p ≡ Done = sym (c .before .before .before .before .usable .ensures) ∙ (c .before .before .enum-told .given .1) in
+    let c₉ = c .before .before .before .before .before .before .before .before .before in
+    let a = c₉ .args in
+    let p = pool (a .owners .now) (a .marks .now) (a .medium .now) in
+    let u = so-done _ (usable (a .capacity) p) (c .before .before .before .before .usable .ensures) (c .before .before .enum-told .given .1) in
     read-refused (a .capacity) p (a .lba .0) (a .count) _ _ u (c .before .transfer .ensures) (refused _ (c .match2 .keys2))
 
 read-blocks-requires : tie.Need-read-blocks-requires
 read-blocks-requires c κs =
     let c₆ = c .before .before .before .before .before .before in
-    let c₁₀ = c₆ .before .before .before .before in
-    let a = c₁₀ .args in
-    let p = pool (a .owners .now) (a .medium .now) in
-    let u : usable (a .capacity) p ≡ Done = sym (c₆ .usable .ensures) ∙ (c .before .before .before .before .enum-told .given .1) in
-    may-move (a .capacity) p (a .lba .0) (a .count) (length (a .out .now)) u (sym (c .before .before .before .transfer .ensures) ∙ (c .before .enum-told2 .given .1))
+    let c₁₁ = c₆ .before .before .before .before .before in
+    let a = c₁₁ .args in
+    let p = pool (a .owners .now) (a .marks .now) (a .medium .now) in
+    let u = so-done _ (usable (a .capacity) p) (c₆ .usable .ensures) (c .before .before .before .before .enum-told .given .1) in
+    may-move (a .capacity) p (a .lba .0) (a .count) (length (a .out .now)) u (so-done _ _ (c .before .before .before .transfer .ensures) (c .before .enum-told2 .given .1))
 
 same-length : tie.Need-same-length
 same-length c = search needs
@@ -52,11 +51,11 @@ returns-3 c =
     let c₆ = c .before .before .before .before .before .before in
     let c₇ = c₆ .before in
     let c₉ = c₇ .before .before in
-    let c₁₃ = c₉ .before .before .before .before in
-    let a = c₁₃ .args in
-    let p = pool (a .owners .now) (a .medium .now) in
-    let u : usable (a .capacity) p ≡ Done = sym (c₉ .usable .ensures) ∙ (c₇ .enum-told .given .1) in
-    read-done (a .capacity) p (a .lba .0) (a .count) (a .out .now) _ u (sym (c₆ .transfer .ensures) ∙ (c .before .before .before .before .enum-told2 .given .1)) (c .before .before .read-blocks .ensures)
+    let c₁₄ = c₉ .before .before .before .before .before in
+    let a = c₁₄ .args in
+    let p = pool (a .owners .now) (a .marks .now) (a .medium .now) in
+    let u = so-done _ (usable (a .capacity) p) (c₉ .usable .ensures) (c₇ .enum-told .given .1) in
+    read-done (a .capacity) p (a .lba .0) (a .count) (a .out .now) _ u (so-done _ _ (c₆ .transfer .ensures) (c .before .before .before .before .enum-told2 .given .1)) ((c .before .before .read-blocks .ensures) (a .marks .now))
 
 pub read-spec : {M : Type 1} → statement M
 read-spec =

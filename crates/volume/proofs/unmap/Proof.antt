@@ -1,15 +1,13 @@
--- `unmap`: a refusal leaves the owners, and what passes the tests is what `unmap_blocks` asks.
+-- `unmap`: a refusal leaves the owners and the marks, and what passes the tests is what `unmap_blocks` asks.
 -- Assumes nothing.
-use mathlib.Core.Path.{_≡_, _∙_, sym}
 use mathlib.Core.Logic.{⊎-elim}
 use Prim.Native.Nat.{_-_}
 use native.Mathlib.Omega.{arith}
 use borrow.Author.Tests.{ltb-true, ltb-false}
 use borrow.Author.Needs.{needs}
 use Rattle.pool.specs.Pool.{pool}
-use Rattle.volume.specs.declared.Mapped.the-variants.{Done}
 use Rattle.volume.specs.Volume.{usable}
-use Rattle.volume.proofs.Answering.{refused, usable-has, unmap-unusable, unmap-beyond, unmap-done}
+use Rattle.volume.proofs.Answering.{refused, so-done, may-unmap, unmap-unusable, unmap-beyond, unmap-done}
 use Rattle.volume.proofs.unmap.Statement.{statement}
 use Rattle.volume.proofs.unmap.Tie as tie
 
@@ -22,46 +20,57 @@ enum-told c = search needs
 same-length : tie.Need-same-length
 same-length c = search needs
 
-returns : tie.Need-returns
-returns c =
-    let a = (c .before .before .before .before .before .args) in
-    unmap-unusable (a .capacity) (pool (a .owners .now) (a .medium .now)) (a .lba .0) (a .count) _ (c .before .usable .ensures) (refused _ (c .match .keys2))
-
 same-length-2 : tie.Need-same-length-2
 same-length-2 c = search needs
 
-returns-2 : tie.Need-returns-2
-returns-2 c =
+returns : tie.Need-returns
+returns c =
     let c₇ = c .before .before .before .before .before .before .before in
     let a = c₇ .args in
-    let p = pool (a .owners .now) (a .medium .now) in
-    let u : usable (a .capacity) p ≡ Done = sym (c .before .before .before .usable .ensures) ∙ (c .before .enum-told .given .1) in
+    unmap-unusable (a .capacity) (pool (a .owners .now) (a .marks .now) (a .medium .now)) (a .lba .0) (a .count) _ (c .before .usable .ensures) (refused _ (c .match .keys2))
+
+same-length-3 : tie.Need-same-length-3
+same-length-3 c = search needs
+
+same-length-4 : tie.Need-same-length-4
+same-length-4 c = search needs
+
+returns-2 : tie.Need-returns-2
+returns-2 c =
+    let c₉ = c .before .before .before .before .before .before .before .before .before in
+    let a = c₉ .args in
+    let p = pool (a .owners .now) (a .marks .now) (a .medium .now) in
+    let u = so-done _ (usable (a .capacity) p) (c .before .before .before .usable .ensures) (c .before .enum-told .given .1) in
     unmap-beyond (a .capacity) p (a .lba .0) (a .count) u
     (⊎-elim (λ w. omega arith) (λ w. let h = ltb-true (a .capacity - a .lba .0) (a .count) (w .1 .taken) in omega arith) (c .if1 .came))
 
 unmap-blocks-requires : tie.Need-unmap-blocks-requires
 unmap-blocks-requires c κs =
-    let c₉ = c .before .before .before .before .before .before .before .before .before in
-    let a = c₉ .args in
-    let p = pool (a .owners .now) (a .medium .now) in
-    let u : usable (a .capacity) p ≡ Done = sym (c .before .before .before .before .before .usable .ensures) ∙ (c .before .before .before .enum-told .given .1) in
-    let f = usable-has (a .capacity) p u in
-    let h = ltb-false (a .capacity - a .lba .0) (a .count) (c .before .if2 .left) in
-    omega arith
+    let c₆ = c .before .before .before .before .before .before in
+    let c₁₂ = c₆ .before .before .before .before .before .before in
+    let a = c₁₂ .args in
+    let p = pool (a .owners .now) (a .marks .now) (a .medium .now) in
+    let u = so-done _ (usable (a .capacity) p) (c₆ .usable .ensures) (c .before .before .before .before .enum-told .given .1) in
+    let h = ltb-false (a .capacity - a .lba .0) (a .count) (c .before .before .if2 .left) in
+    may-unmap (a .capacity) p (a .lba .0) (a .count) u (omega arith)
 
-same-length-3 : tie.Need-same-length-3
-same-length-3 c = search needs
+same-length-5 : tie.Need-same-length-5
+same-length-5 c = search needs
+
+same-length-6 : tie.Need-same-length-6
+same-length-6 c = search needs
 
 returns-3 : tie.Need-returns-3
 returns-3 c =
-    let c₆ = c .before .before .before .before .before .before in
-    let c₈ = c₆ .before .before in
-    let c₁₂ = c₈ .before .before .before .before in
-    let a = c₁₂ .args in
-    let p = pool (a .owners .now) (a .medium .now) in
-    let u : usable (a .capacity) p ≡ Done = sym (c₈ .usable .ensures) ∙ (c₆ .enum-told .given .1) in
-    let h = ltb-false (a .capacity - a .lba .0) (a .count) (c .before .before .before .before .if2 .left) in
-    unmap-done (a .capacity) p (a .lba .0) (a .count) u _ (omega arith) (c .before .before .unmap-blocks .ensures)
+    let c₇ = c .before .before .before .before .before .before .before in
+    let c₉ = c₇ .before .before in
+    let c₁₁ = c₉ .before .before in
+    let c₁₇ = c₁₁ .before .before .before .before .before .before in
+    let a = c₁₇ .args in
+    let p = pool (a .owners .now) (a .marks .now) (a .medium .now) in
+    let u = so-done _ (usable (a .capacity) p) (c₁₁ .usable .ensures) (c₉ .enum-told .given .1) in
+    let h = ltb-false (a .capacity - a .lba .0) (a .count) (c₇ .if2 .left) in
+    unmap-done (a .capacity) p (a .lba .0) (a .count) u _ _ (omega arith) (c .before .before .before .before .unmap-blocks .ensures)
 
 pub unmap-spec : {M : Type 1} → statement M
 unmap-spec =
@@ -70,9 +79,12 @@ unmap-spec =
     usable-requires
     enum-told
     same-length
-    returns
     same-length-2
+    returns
+    same-length-3
+    same-length-4
     returns-2
     unmap-blocks-requires
-    same-length-3
+    same-length-5
+    same-length-6
     returns-3)

@@ -69,7 +69,7 @@ loop-less-2 c = search needs
 
 -- src/unmap.rt:29:5
 loop-again-2 : tie.Need-loop-again-2 Inv-loop μ-loop
-loop-again-2 c = (search needs, (c .before .before .before .before .before .before .before .before .loop .inv) .1, rw ((c .before .before .clear .ensures)) (free-one _ _ _ _ _ _ ((c .before .before .before .before .before .before .before .before .loop .inv) .2) (omega (arith, (c .before .before .before .before .before .before .before .before .loop .inv) .2 .same)) (sym ((c .before .before .before .before .before .names .ensures)) ∙ not-false _ ((c .before .before .before .before .if1 .left)))))
+loop-again-2 c = (search needs, (c .before .before .before .before .before .before .before .before .loop .inv) .1, free-one _ _ _ _ _ _ ((c .before .before .before .before .before .before .before .before .loop .inv) .2) _ (omega (arith, (c .before .before .before .before .before .before .before .before .loop .inv) .2 .same)) (sym ((c .before .before .before .before .before .names .ensures)) ∙ not-false _ ((c .before .before .before .before .if1 .left))) ((c .before .before .clear .ensures)))
 
 -- src/unmap.rt:22:1
 same-length : tie.Need-same-length Inv-loop μ-loop

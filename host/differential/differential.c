@@ -1286,6 +1286,14 @@ static bool print_damages(const struct figures *figures, uint64_t floor)
     return enough;
 }
 
+/* Long ones get far from where they began, short ones begin in many places. */
+static uint64_t history_length(struct run *run)
+{
+    uint64_t most = random_percent(&run->random, 50) ? 100 : 20;
+
+    return 1 + random_below(&run->random, most);
+}
+
 /* A history in which others are preempted and cleared is left with few that are
    registered; so at times there are other ones. */
 static void run_calls(struct run *run, uint64_t calls)
@@ -1295,7 +1303,7 @@ static void run_calls(struct run *run, uint64_t calls)
 
     while (run->figures.calls < calls) {
         if (left == 0) {
-            left = 1 + random_below(&run->random, 100);
+            left = history_length(run);
             if (random_percent(&run->random, 50) || !fresh_store(run))
                 generate_store(&run->random, &run->store);
         } else if (random_percent(&run->random, RENEWED)) {

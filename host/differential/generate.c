@@ -504,7 +504,7 @@ static uint64_t generate_address(struct random *random,
 
     switch (random_below(random, 32)) {
     case 0:
-        return capacity + random_below(random, 3);
+        return capacity + RANDOM_CHOICE(random, 0, 0, 1, 2);
     case 1:
         /* So near the top that even a small count wraps. */
         return UINT64_MAX - random_below(random, random_percent(random, 70)
@@ -525,6 +525,8 @@ static uint64_t generate_count(struct random *random, const struct store *store,
     uint64_t left = store->unit.capacity - address;
     uint64_t count = random_below(random, 6);
 
+    if (left == 0 && random_percent(random, 40))
+        return 0;
     switch (random_below(random, 48)) {
     case 0:
         return RANDOM_CHOICE(random, 127, 128, 129, 130);
@@ -1846,16 +1848,30 @@ static uint64_t served_nexus(struct random *random,
     return nexus;
 }
 
-/* All slots that are free, or one more, or one or two of them. */
+/* All slots that are free, or one more, or one or two of them; in a large store
+   at times as many blocks as one command moves, mapped or not. */
+static void taking_range(struct random *random, const struct store *store,
+                         uint64_t *address, uint64_t *count)
+{
+    uint64_t free = free_slots(store);
+    uint64_t wanted = RANDOM_CHOICE(random, free, free, free + 1, 1, 2);
+
+    if (store->slots >= LARGE_SLOTS && random_percent(random, 25)) {
+        large_range(random, store, address, count);
+        return;
+    }
+    *address = address_within(random, store->unit.capacity);
+    *count = count_of_unmapped(store, *address, wanted);
+}
+
 static void make_taking(struct random *random, const struct store *store,
                         struct request *request)
 {
     bool same = random_percent(random, 60);
-    uint64_t free = free_slots(store);
-    uint64_t wanted = RANDOM_CHOICE(random, free, free, free + 1, 1, 2);
-    uint64_t address = address_within(random, store->unit.capacity);
-    uint64_t count = count_of_unmapped(store, address, wanted);
+    uint64_t address;
+    uint64_t count;
 
+    taking_range(random, store, &address, &count);
     start_cdb(random, request, same ? 0x93 : 0x8A, 16);
     request->cdb[1] &= same ? 0x07 : 0x1F;
     put_range(request, address, count);

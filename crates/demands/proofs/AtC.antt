@@ -5,7 +5,7 @@ use mathlib.Core.Logic.{_≢_, _⊎_}
 use mathlib.Core.Bool.{Bool, true, false, not, _&&_}
 use mathlib.Core.List.{List, [], _∷_, map}
 use Prim.Native.Nat.{ℕ}
-use lib.Dec.{T}
+use lib.Dec.{T, eqb, eqb-refl}
 use lib.ListN.{length, drop}
 use Rattle.fields.specs.Bytes.{zeros}
 use Rattle.fields.proofs.Tests.{both}
@@ -16,6 +16,7 @@ use Rattle.answers.specs.declared.Answer.the-variants.{Good, Refused, Conflict,
 use Rattle.answers.specs.Answers.{codesOf, numberOf}
 use Rattle.answers.specs.Sense.{formatOk, senseWritten, senseAfter}
 use Rattle.answers.specs.Order.{ifGoodBy, refuses}
+use Rattle.pool.specs.Bounds.{markWords}
 use Rattle.pool.specs.Valid.{capacityOk, slotsOk}
 use Rattle.rights.specs.Rights.{isOneOf}
 use Rattle.store.specs.declared.Unit.{Unit}
@@ -29,7 +30,7 @@ use Rattle.demands.specs.Contents.{plain}
 use Rattle.demands.specs.Demands.{Secrecy}
 use Rattle.demands.specs.SenseRead.{senseLong}
 use Rattle.demands.specs.AtC.{toldBy, storeIn, onward, program, begun, toldOf, Faithful, Kept, Demand1AtC, Demand3AtC}
-use Rattle.demands.proofs.Usable.{usable-stays, owners-stay, medium-stays}
+use Rattle.demands.proofs.Usable.{usable-stays, owners-stay, marks-stay, medium-stays}
 use Rattle.demands.proofs.Fresh.{fresh-made, fresh-refused}
 use Rattle.demands.proofs.Demand1.{step-listed, refused-store, refused-data, refused-none, sense-table, sense-past, data-past, data-length, sense-length, told-store}
 use Rattle.demands.proofs.Demand3 as D
@@ -66,33 +67,42 @@ sights-are s (call c ∷ es) =
 
 -- ---- a history begins
 
-module _ (capacity format : ℕ) (u : Unit) (owners : List ℕ) (b : T (capacityOk capacity)) (f : T (formatOk format)) (n : T (slotsOk (length owners))) where
-  made : freshened capacity format u owners ≡ freshBy u (record { answer = Good; unit = freshUnit capacity; owners = zeros (length owners) })
+module _ (capacity format : ℕ) (u : Unit) (owners marks : List ℕ) (b : T (capacityOk capacity)) (f : T (formatOk format)) (n : T (slotsOk (length owners)))
+    (w : length marks ≡ markWords) where
+  made : freshened capacity format u owners marks
+      ≡ freshBy u (record { answer = Good; unit = freshUnit capacity; owners = zeros (length owners); marks = zeros markWords })
   unfolding freshened
-  made = ap (freshBy u) (fresh-made capacity format owners (both (capacityOk capacity) _ b (both (formatOk format) (slotsOk (length owners)) f n)))
+  made =
+      ap (freshBy u)
+      (fresh-made capacity format owners marks
+      (both (capacityOk capacity) _ b (both (formatOk format) _ f (both (slotsOk (length owners)) (eqb (length marks) markWords) n (rw w (eqb-refl markWords))))))
 
-  pub fresh-zero : freshened capacity format u owners .answer ≡ 0
+  pub fresh-zero : freshened capacity format u owners marks .answer ≡ 0
   unfolding freshBy numberOf
   fresh-zero = ap (λ (x : FreshLeft). x .answer) made
 
-  pub fresh-begins : (medium : List ℕ) → begun format (freshened capacity format u owners) medium ≡ freshStore capacity format (length owners) medium
+  pub fresh-begins : (medium : List ℕ) → begun format (freshened capacity format u owners marks) medium ≡ freshStore capacity format (length owners) medium
   unfolding freshBy begun freshStore ifGoodBy refuses
   fresh-begins medium = ap (λ (x : FreshLeft). begun format x medium) made
 
-module _ (capacity format : ℕ) (u : Unit) (owners : List ℕ) (f : T (not (formatOk format))) where
-  unmade : freshened capacity format u owners ≡ record { answer = 11; unit = u; owners = owners }
+module _ (capacity format : ℕ) (u : Unit) (owners marks : List ℕ) (f : T (not (formatOk format))) where
+  unmade : freshened capacity format u owners marks ≡ record { answer = 11; unit = u; owners = owners; marks = marks }
   unfolding freshened freshBy numberOf ifGoodBy refuses
-  unmade = ap (freshBy u) (fresh-refused capacity format owners (no-middle (capacityOk capacity) (formatOk format) (slotsOk (length owners)) f))
+  unmade = ap (freshBy u) (fresh-refused capacity format owners marks (no-middle (capacityOk capacity) (formatOk format) _ f))
     where
       no-middle : (a b d : Bool) → T (not b) → T (not (a && (b && d)))
       no-middle true true d t = absurd t
       no-middle true false d t = tt
       no-middle false b d t = tt
 
-  pub format-refused : (freshened capacity format u owners .answer ≡ 11) × (freshened capacity format u owners .unit ≡ u)
-      × (freshened capacity format u owners .owners ≡ owners)
-  format-refused =
-      (ap (λ (x : FreshLeft). x .answer) unmade, ap (λ (x : FreshLeft). x .unit) unmade, ap (λ (x : FreshLeft). x .owners) unmade)
+  pub format-refused : (freshened capacity format u owners marks .answer ≡ 11) × (freshened capacity format u owners marks .unit ≡ u)
+      × (freshened capacity format u owners marks .owners ≡ owners) × (freshened capacity format u owners marks .marks ≡ marks)
+  format-refused = (
+    ap (λ (x : FreshLeft). x .answer) unmade,
+    ap (λ (x : FreshLeft). x .unit) unmade,
+    ap (λ (x : FreshLeft). x .owners) unmade,
+    ap (λ (x : FreshLeft). x .marks) unmade,
+  )
 
 pub faithful : Faithful
 unfolding after
@@ -102,7 +112,7 @@ faithful = record {
   stores = stores-are;
   sights = sights-are;
   fresh-answer = fresh-zero;
-  fresh-store = λ capacity format u owners medium b f n. fresh-begins capacity format u owners b f n medium;
+  fresh-store = λ capacity format u owners marks medium b f n w. fresh-begins capacity format u owners marks b f n w medium;
   fresh-refused = format-refused;
 }
 
@@ -117,6 +127,7 @@ unfolding executed leftBy after
 kept-by u s c d k = record {
   unit = ap (λ (t : Store). t .unit) k;
   owners = ap (λ (t : Store). t .pool .owners) k;
+  marks = ap (λ (t : Store). t .pool .marks) k;
   medium = ap (λ (t : Store). t .pool .medium) k;
   dataIn = refused-data s c d;
   returned = refused-none s c d;
@@ -197,6 +208,7 @@ demand-1-at-c = record {
   data-length = data-length;
   sense-length = sense-length;
   owners-length = owners-stay;
+  marks-length = marks-stay;
   medium-length = medium-stays;
 }
 

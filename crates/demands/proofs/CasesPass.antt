@@ -3,6 +3,7 @@
 use mathlib.Core.Bool.{_&&_}
 use lib.Dec.{T}
 use Rattle.answers.specs.declared.Answer.the-variants.{Good}
+use Rattle.store.specs.Room.{roomAnswer, roomOf}
 use Rattle.store.specs.Step.{step}
 use Rattle.demands.specs.Checker.{passedBy, passed, allPassed}
 use Rattle.demands.specs.Cases.{cases, caseA, caseE}
@@ -10,6 +11,7 @@ use Rattle.demands.specs.FurtherCases.{rising, blocks, caseMostWritten, 
 use Rattle.demands.specs.ClearingCases.{same-16, status-lent, status-16, told-run, told-head, caseSame, caseSameRefused, caseStatus, caseGuarded, caseReadable, clearingCases}
 use Rattle.demands.specs.SenseCases.{pastEndTold, noRoomTold, fieldTold, listTold, headTold, inFormat, wide, unmapThree, caseDescribed, caseRoom, caseShown, caseNought, caseFull, caseNoFormat, caseValidIsNone, senseCases}
 use Rattle.demands.specs.AttentionCases.{leftWaiting, inquiry, inquiryWrong, caseLearns, caseFirst, caseClear, caseRelease, caseUnregister, casePreempt, caseAttentionDescribed, caseFour, caseMany, attentionCases}
+use Rattle.demands.specs.MarkCases.{untouched, marked65, full64, oneFree, noneFree, caseSecondWord, caseBothWords, allEleven, caseBeyond, caseBare, caseUnmarked, caseOneWord, caseThreeWords, markCases, tellsRoom, roomCases}
 use Rattle.demands.specs.Comparisons.{withoutMedium}
 use Rattle.demands.specs.Useless.{says, pretends}
 use Rattle.demands.proofs.Computing.{meaning}
@@ -34,6 +36,14 @@ sense-cases-pass = tt
 pub attention-cases-pass : T (allPassed step attentionCases)
 unfolding meaning headTold inFormat leftWaiting inquiry inquiryWrong caseLearns caseFirst caseClear caseRelease caseUnregister casePreempt caseAttentionDescribed caseFour caseMany attentionCases
 attention-cases-pass = tt
+
+pub mark-cases-pass : T (allPassed step markCases)
+unfolding meaning rising untouched marked65 full64 oneFree noneFree caseSecondWord caseBothWords allEleven caseBeyond caseBare caseUnmarked caseOneWord caseThreeWords markCases
+mark-cases-pass = tt
+
+pub room-cases-pass : T roomCases
+unfolding meaning roomAnswer roomOf rising untouched marked65 full64 oneFree noneFree caseBothWords allEleven caseBeyond caseUnmarked tellsRoom roomCases
+room-cases-pass = tt
 
 -- "Count 128 passes", in a WRITE: all but the bytes in the slots
 pub most-written-passes : T (passedBy withoutMedium step caseMostWritten)

@@ -120,8 +120,11 @@ pool-equal : (p q : Pool) → T (samePool p q) → p ≡ q
 unfolding samePool
 pool-equal p q t =
     let o = same (p .owners) (q .owners) in
+    let k = same (p .marks) (q .marks) in
     let m = same (p .medium) (q .medium) in
-    ap₂ pool (same-equal (p .owners) (q .owners) (and-l o m t)) (same-equal (p .medium) (q .medium) (and-r o m t))
+    let rest = and-r o (k && m) t in
+    ap₂ (λ (x y : List ℕ). pool x y (p .medium)) (same-equal (p .owners) (q .owners) (and-l o (k && m) t)) (same-equal (p .marks) (q .marks) (and-l k m rest))
+    ∙ ap (pool (q .owners) (q .marks)) (same-equal (p .medium) (q .medium) (and-r k m rest))
 
 -- the store in the end is the one wanted
 pub ends-equal : (w s : Store) → T (ends w s) → s ≡ w

@@ -26,7 +26,7 @@ use Rattle.store.specs.Step.{dataBy, stepBy, step, answerTo}
 use Rattle.store.proofs.StoreLaws.{step-answer, refusedStore, step-store, step-ways, leaves-refused}
 use Rattle.demands.specs.History.{after}
 use Rattle.demands.specs.Demands.{Demand1}
-use Rattle.demands.proofs.Usable.{usable-stays, owners-stay, medium-stays}
+use Rattle.demands.proofs.Usable.{usable-stays, owners-stay, marks-stay, medium-stays}
 
 -- ---- every answer is listed
 
@@ -172,5 +172,6 @@ demand-1 = record {
   data-length = data-length;
   sense-length = sense-length;
   owners-length = owners-stay;
+  marks-length = marks-stay;
   medium-length = medium-stays;
 }

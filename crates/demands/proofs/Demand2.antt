@@ -9,6 +9,8 @@ use Rattle.store.specs.Fresh.{FreshResult, fresh}
 use Rattle.reply.specs.declared.Outcome.{Outcome}
 use Rattle.reply.specs.Contract.{left}
 use Rattle.commands.proofs.Only.{execute-only}
+use Rattle.ridge.specs.Interface.{roomed, leavesRoom}
+use Rattle.ridge.proofs.Only.{ridge-room-only}
 use Rattle.demands.specs.History.{Build, machine}
 use Rattle.demands.specs.Demands.{Demand1, Demand2, Demand3, Secrecy}
 use Rattle.demands.specs.Contents.{plain}
@@ -32,14 +34,20 @@ demand-2 = record {
 pub once : (s : Store) (c : Call) (o o′ : Result) → o ≡ step s c → o′ ≡ step s c → o ≡ o′
 once s c o o′ e e′ = e ∙ sym e′
 
-pub fresh-once : (capacity format : ℕ) (owners : List ℕ) (o o′ : FreshResult) → o ≡ fresh capacity format owners → o′ ≡ fresh capacity format owners → o ≡ o′
-fresh-once capacity format owners o o′ e e′ = e ∙ sym e′
+pub fresh-once : (capacity format : ℕ) (owners marks : List ℕ) (o o′ : FreshResult) → o ≡ fresh capacity format owners marks
+    → o′ ≡ fresh capacity format owners marks → o ≡ o′
+fresh-once capacity format owners marks o o′ e e′ = e ∙ sym e′
 
 -- the promise of `execute` itself, by which nothing that it leaves could be otherwise
-pub execute-once : (s : Store) (c : Call) (r q : Outcome) (owners owners′ medium medium′ dataIn dataIn′ sense sense′ : List ℕ)
-    → left (s .format) r owners medium dataIn sense ≡ step s c → left (s .format) q owners′ medium′ dataIn′ sense′ ≡ step s c → r ≡ q
-execute-once s c r q owners owners′ medium medium′ dataIn dataIn′ sense sense′ e h =
-    execute-only (s .format) s c r q owners owners′ medium medium′ dataIn dataIn′ sense sense′ e h .0
+pub execute-once : (s : Store) (c : Call) (r q : Outcome) (owners owners′ marks marks′ medium medium′ dataIn dataIn′ sense sense′ : List ℕ)
+    → left (s .format) r owners marks medium dataIn sense ≡ step s c → left (s .format) q owners′ marks′ medium′ dataIn′ sense′ ≡ step s c → r ≡ q
+execute-once s c r q owners owners′ marks marks′ medium medium′ dataIn dataIn′ sense sense′ e h =
+    execute-only (s .format) s c r q owners owners′ marks marks′ medium medium′ dataIn dataIn′ sense sense′ e h .0
+
+-- and that of `ridge_room`
+pub room-once : (s : Store) (before lower answer answer′ free free′ lowest lowest′ : ℕ) → leavesRoom answer free lowest ≡ roomed s before lower
+    → leavesRoom answer′ free′ lowest′ ≡ roomed s before lower → (answer ≡ answer′) × (free ≡ free′) × (lowest ≡ lowest′)
+room-once s before lower answer answer′ free free′ lowest lowest′ e h = ridge-room-only s before lower answer answer′ free free′ lowest lowest′ e h
 
 -- ---- what holds of `step` holds of every build that is exact
 

@@ -313,7 +313,7 @@ module _ (m : Machine) (plain : ℕ → Unit → m .State) (plain-format : (f : 
 
 pub plain-usable : (s : Store) → T (usable s) → T (usable (plain (s .format) (s .unit)))
 unfolding plain slotsOk zeros
-plain-usable s u = usable-of (plain (s .format) (s .unit)) (usable-format s u) (usable-unit s u) (poolOk-of (s .unit .capacity) _ tt refl (mapOk-zeros (s .unit .capacity) 1))
+plain-usable s u = usable-of (plain (s .format) (s .unit)) (usable-format s u) (usable-unit s u) (poolOk-of (s .unit .capacity) _ tt refl (mapOk-zeros (s .unit .capacity) 1) refl)
 
 pub plain-format : (f : ℕ) (u : Unit) → plain f u .format ≡ f
 unfolding plain

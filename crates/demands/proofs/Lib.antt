@@ -44,4 +44,6 @@ pub mod Pointed
 pub mod WrongPointers
 pub mod Sensed
 pub mod WrongSense
+pub mod FreeRoom
+pub mod WrongMarks
 pub mod Proved

@@ -18,6 +18,7 @@ use Rattle.demands.proofs.Limits.{limits}
 use Rattle.demands.proofs.Pointed.{pointed}
 use Rattle.demands.proofs.Places.{places-true}
 use Rattle.demands.proofs.Sensed.{sensed}
+use Rattle.demands.proofs.FreeRoom.{marks-decide, keeps-marks, refuses-marks, tells-room, relies, fresh-room, room-at-c}
 use Rattle.demands.proofs.FromFresh.{from-fresh}
 use Rattle.demands.proofs.Demand3.{demand-3, secrecy}
 use Rattle.demands.proofs.AtC.{faithful, demand-1-at-c, demand-3-at-c}
@@ -42,12 +43,19 @@ proved = record {
   sensed = sensed;
   attentions = attentions;
   none-lost = none-lost;
+  marks-decide = marks-decide;
+  keeps-marks = keeps-marks;
+  refuses-marks = refuses-marks;
+  tells-room = tells-room;
+  relies = relies;
   from-fresh = from-fresh;
   taken-over = fresh-taken-over;
   learns = fresh-learns;
+  room-ever = fresh-room;
   demand-3 = demand-3;
   secrecy = secrecy;
   faithful = faithful;
   demand-1-at-c = demand-1-at-c;
   demand-3-at-c = demand-3-at-c;
+  room-at-c = room-at-c;
 }

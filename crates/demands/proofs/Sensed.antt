@@ -183,7 +183,7 @@ module _ (n : ℕ) (w : OwnNumber n) {m : Move} (s : Store) (c : Call) (a : Asks
   by-rows : step s c .seen .answer ≡ first rows
   by-rows = step-answer s c ∙ own-is n w s c (says-seen s c n e) ∙ rows-are
 
-  rows-say : T (says n (first rows))
+  pub rows-say : T (says n (first rows))
   rows-say = subst (λ (x : Answer). T (says n x)) rows-are (own-says n w s c (says-seen s c n e))
 
 range-address : (m : Move) → m ≢ Unmap → (s : Store) (c : Call) (a : Asks m c) → numberOf (step s c .seen .answer) ≡ 3

@@ -15,7 +15,7 @@ use Rattle.answers.proofs.OrderLaws.{good-cases}
 use Rattle.answers.specs.Sense.{formatOk}
 use Rattle.pool.specs.Pool.{Pool, roomFor}
 use Rattle.pool.specs.Valid.{capacityOk, slotsOk, poolOk}
-use Rattle.pool.proofs.Keeping.{mapOk-distinct, poolOk-whole, poolOk-map, poolOk-unmapBlocks}
+use Rattle.pool.proofs.Keeping.{mapOk-distinct, poolOk-whole, poolOk-map, poolOk-marks, poolOk-unmapBlocks}
 use Rattle.pool.specs.Alike.{Alike}
 use Rattle.pool.proofs.Alike.{alike-self, alike-back, alike-through, alike-unmapped, alike-reads, alike-write, alike-unmap}
 use Rattle.descriptors.specs.declared.Descriptor.{Descriptor}
@@ -142,7 +142,8 @@ module _ (capacity : ℕ) (x y : Pool) (c : Call) (u : T (poolOk capacity x)) (v
       same-alike x y l (q .address .0) (countIn q) (q .options) (c .dataOut) (poolOk-whole capacity x u) (poolOk-whole capacity y v)
       (mapOk-distinct capacity (x .owners) (poolOk-map capacity x u)) (mapOk-distinct capacity (y .owners) (poolOk-map capacity y v)) (h .1) (h .2)
   moved-same Unmap q e =
-      subst₂ Alike (sym (each-moved q x c)) (sym (each-moved q y c)) (each-same capacity (descriptorsOf q (c .dataOut)) x y u v l)
+      subst₂ Alike (sym (each-moved q x c (poolOk-marks capacity x u))) (sym (each-moved q y c (poolOk-marks capacity y v)))
+      (each-same capacity (descriptorsOf q (c .dataOut)) x y u v l)
   moved-same Status q e = l
 
 module _ (s t : Store) (c : Call) (u : T (usable s)) (v : T (usable t)) (e : Same s t) where

@@ -147,10 +147,10 @@ module _ (s : Store) (w r : Call) (a : Asks Write w) (b : Asks Read r) where
 -- it reads zeros everywhere, whatever bytes its medium holds
 pub fresh-contents : (capacity format slots : ℕ) (medium : List ℕ) (b : ℕ) → readBlock (freshStore capacity format slots medium .pool) b ≡ zeros 512
 unfolding freshStore
-fresh-contents capacity format slots medium b = fresh-read slots medium b
+fresh-contents capacity format slots medium b = fresh-read slots _ medium b
 
 pub fresh-reads-zeros : (capacity format slots : ℕ) (medium : List ℕ) (r : Call) (a : Asks Read r) → IsGood (freshStore capacity format slots medium) r
     → step (freshStore capacity format slots medium) r .seen ≡ seenOf format Good (zeros (512 * countIn (a .request))) r
 unfolding freshStore
 fresh-reads-zeros capacity format slots medium r a e =
-    read-seen (freshStore capacity format slots medium) r a e ∙ ap (λ (bs : List ℕ). seenOf format Good bs r) (read-fresh slots medium _ _)
+    read-seen (freshStore capacity format slots medium) r a e ∙ ap (λ (bs : List ℕ). seenOf format Good bs r) (read-fresh slots _ medium _ _)

@@ -9,7 +9,8 @@ use lib.Dec.{T, leb, ltb, leb→le, ltb→lt, le→leb, lt→ltb}
 use Rattle.fields.specs.Bytes.{zeros}
 use Rattle.fields.proofs.Tests.{and-l, and-r, both, or-l, or-r, by-test, T-true, T-false}
 use Rattle.answers.specs.declared.Answer.the-variants.{Good}
-use Rattle.pool.specs.Pool.{Pool, readBlock, unmapOwners, unmapBlocks}
+use Rattle.pool.specs.Marks.{marksOf}
+use Rattle.pool.specs.Pool.{Pool, pool, withOwners, readBlock, unmapOwners, unmapBlocks}
 use Rattle.pool.proofs.Writing.{in-or-out}
 use Rattle.pool.proofs.Reading.{unmap-in, unmap-out, reads-same, reads-zeros}
 use Rattle.descriptors.specs.declared.Descriptor.{Descriptor}
@@ -22,7 +23,7 @@ use Rattle.store.specs.Move.{moved}
 use Rattle.store.specs.Step.{step}
 use Rattle.demands.specs.History.{after}
 use Rattle.demands.specs.Contents.{inRange, Asks, addressIn, IsGood, Outside, descriptorsFrom, descriptorsOf, unmapEach, covers, names}
-use Rattle.demands.proofs.Usable.{usable-stays, format-after}
+use Rattle.demands.proofs.Usable.{usable-marks, usable-stays, format-after}
 use Rattle.demands.proofs.Moving.{good-usable, good-pool, after-ways, moves-unit}
 use Rattle.demands.proofs.Transfers.{read-seen, read-sees}
 use Rattle.answers.specs.Answers.{numberOf}
@@ -30,22 +31,22 @@ use mathlib.Core.Logic.{_≢_}
 
 -- ---- one after another
 
-each-of : (owners medium list : List ℕ) (at n : ℕ)
-    → _≡_ {A = Pool} (record { owners = unmapAll owners list at n; medium = medium })
-    (unmapEach (record { owners = owners; medium = medium }) (descriptorsFrom list at n))
+each-of : (p : Pool) (owners list : List ℕ) (at n : ℕ) → withOwners p (unmapAll owners list at n) ≡ unmapEach (withOwners p owners) (descriptorsFrom list at n)
 unfolding unmapAll descriptorsFrom unmapEach unmapBlocks
-each-of owners medium list at zero = refl
-each-of owners medium list at (suc n) =
-    each-of (unmapOwners owners (descriptorAt list at .address .0) (descriptorAt list at .count)) medium list (at + 16) n
+each-of p owners list at zero = refl
+each-of p owners list at (suc n) =
+    each-of p (unmapOwners owners (descriptorAt list at .address .0) (descriptorAt list at .count)) list (at + 16) n
 
--- the pool after an UNMAP is what its descriptors leave, each acting on what those before it left
-pub each-moved : (q : Request) (p : Pool) (c : Call) → moved Unmap q p c ≡ unmapEach p (descriptorsOf q (c .dataOut))
+-- the pool after an UNMAP is what its descriptors leave, each acting on what those before it left, where the marks are those of the owners
+pub each-moved : (q : Request) (p : Pool) (c : Call) → p .marks ≡ marksOf (p .owners) → moved Unmap q p c ≡ unmapEach p (descriptorsOf q (c .dataOut))
 unfolding moved descriptorsOf
-each-moved q p c = each-of (p .owners) (p .medium) (c .dataOut) 8 (considered (listLengthIn q) (c .dataOut))
+each-moved q p c e =
+    each-of p (p .owners) (c .dataOut) 8 (considered (listLengthIn q) (c .dataOut))
+    ∙ ap (λ (m : List ℕ). unmapEach (pool (p .owners) m (p .medium)) (descriptorsOf q (c .dataOut))) (sym e)
 
 pub unmap-pool : (s : Store) (c : Call) (a : Asks Unmap c) → IsGood s c
     → after step s c .pool ≡ unmapEach (s .pool) (descriptorsOf (a .request) (c .dataOut))
-unmap-pool s c a e = good-pool Unmap s c a e ∙ each-moved (a .request) (s .pool) c
+unmap-pool s c a e = good-pool Unmap s c a e ∙ each-moved (a .request) (s .pool) c (usable-marks s (good-usable s c e))
 
 -- ---- what is read
 

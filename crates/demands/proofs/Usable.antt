@@ -1,6 +1,6 @@
 -- A usable store stays usable after every call, and its lists keep their lengths.
 -- Assumes nothing.
-use mathlib.Core.Path.{_≡_, refl, _∙_}
+use mathlib.Core.Path.{_≡_, refl, sym, ap, _∙_, subst}
 use mathlib.Core.Bool.{_&&_}
 use mathlib.Core.List.{List}
 use Prim.Native.Nat.{ℕ, zero, suc, _+_, _≤_}
@@ -12,9 +12,12 @@ use Rattle.answers.specs.Answers.{listLength}
 use Rattle.answers.specs.Order.{first, refuses}
 use Rattle.answers.specs.Sense.{formatOk}
 use Rattle.answers.proofs.OrderLaws.{rows-after}
-use Rattle.pool.specs.Pool.{Pool, writeBlocks, unmapBlocks}
+use Rattle.pool.specs.Bounds.{markWords}
+use Rattle.pool.specs.Marks.{marksOf}
+use Rattle.pool.specs.Pool.{Pool, pool, withOwners, writeBlocks, unmapBlocks}
 use Rattle.pool.specs.Valid.{capacityOk, poolOk}
-use Rattle.pool.proofs.Keeping.{poolOk-writeBlocks, poolOk-unmapBlocks, length-assignBlocks, length-putBlocks, length-unmapOwners}
+use Rattle.pool.proofs.Marking.{length-marksOf}
+use Rattle.pool.proofs.Keeping.{poolOk-marks, poolOk-writeBlocks, poolOk-unmapBlocks, length-assignBlocks, length-putBlocks, length-unmapOwners}
 use Rattle.descriptors.specs.Descriptors.{descriptorAt, unmapAll}
 use Rattle.rights.specs.declared.Action.{Action}
 use Rattle.rights.specs.declared.Rights.{Rights}
@@ -57,6 +60,13 @@ usable-unit s u = and-l (unitOk (s .unit)) (poolOk (s .unit .capacity) (s .pool)
 pub usable-pool : (s : Store) → T (usable s) → T (poolOk (s .unit .capacity) (s .pool))
 usable-pool s u = and-r (unitOk (s .unit)) (poolOk (s .unit .capacity) (s .pool)) (usable-rest s u)
 
+-- "A mark without its owner, an owner without its mark, or a mark beyond the slots makes the state invalid."
+pub usable-marks : (s : Store) → T (usable s) → s .pool .marks ≡ marksOf (s .pool .owners)
+usable-marks s u = poolOk-marks (s .unit .capacity) (s .pool) (usable-pool s u)
+
+pub usable-words : (s : Store) → T (usable s) → length (s .pool .marks) ≡ markWords
+usable-words s u = ap length (usable-marks s u) ∙ length-marksOf (s .pool .owners)
+
 pub usable-of : (s : Store) → T (formatOk (s .format)) → T (unitOk (s .unit)) → T (poolOk (s .unit .capacity) (s .pool)) → T (usable s)
 unfolding usable
 usable-of s f x y = both (formatOk (s .format)) _ f (both (unitOk (s .unit)) (poolOk (s .unit .capacity) (s .pool)) x y)
@@ -91,13 +101,17 @@ relieved-usable s n u =
 
 -- ---- commands that move
 
-unmapAll-ok : (capacity : ℕ) (owners medium list : List ℕ) (at n : ℕ) → T (poolOk capacity (record { owners = owners; medium = medium }))
-    → T (poolOk capacity (record { owners = unmapAll owners list at n; medium = medium }))
+unmapAll-ok : (capacity : ℕ) (p : Pool) (owners list : List ℕ) (at n : ℕ) → T (poolOk capacity (withOwners p owners))
+    → T (poolOk capacity (withOwners p (unmapAll owners list at n)))
 unfolding unmapAll unmapBlocks
-unmapAll-ok capacity owners medium list at zero t = t
-unmapAll-ok capacity owners medium list at (suc n) t =
-    unmapAll-ok capacity _ medium list (at + 16) n
-    (poolOk-unmapBlocks capacity (record { owners = owners; medium = medium }) (descriptorAt list at .address .0) (descriptorAt list at .count) t)
+unmapAll-ok capacity p owners list at zero t = t
+unmapAll-ok capacity p owners list at (suc n) t =
+    unmapAll-ok capacity p _ list (at + 16) n
+    (poolOk-unmapBlocks capacity (withOwners p owners) (descriptorAt list at .address .0) (descriptorAt list at .count) t)
+
+-- the owners that stand there bring the marks that stand there
+own-marks : (capacity : ℕ) (p : Pool) → T (poolOk capacity p) → T (poolOk capacity (withOwners p (p .owners)))
+own-marks capacity p t = subst (λ (m : List ℕ). T (poolOk capacity (pool (p .owners) m (p .medium)))) (poolOk-marks capacity p t) t
 
 unmapAll-length : (owners list : List ℕ) (at n : ℕ) → length (unmapAll owners list at n) ≡ length owners
 unfolding unmapAll
@@ -115,7 +129,7 @@ moved-ok WriteSame q capacity p c t e =
     let h = same-passes capacity (p .owners) (q .address .0) (countIn q) (q .options) (c .dataOut) .0 e in
     same-ways p _ _ (q .options) (c .dataOut) (λ x. T (poolOk capacity x))
     (λ _. poolOk-unmapBlocks capacity p _ _ t) (λ _. poolOk-writeBlocks capacity p _ _ _ t (h .0))
-moved-ok Unmap q capacity p c t e = unmapAll-ok capacity (p .owners) (p .medium) (c .dataOut) 8 _ t
+moved-ok Unmap q capacity p c t e = unmapAll-ok capacity p (p .owners) (c .dataOut) 8 _ (own-marks capacity p t)
 moved-ok Status q capacity p c t e = t
 
 moved-owners : (m : Move) (q : Request) (p : Pool) (c : Call) → length (moved m q p c .owners) ≡ length (p .owners)
@@ -202,6 +216,12 @@ module _ (size : Pool → ℕ) (moves : (m : Move) (q : Request) (p : Pool) (c :
 
 pub owners-stay : (s : Store) (c : Call) → length (after step s c .pool .owners) ≡ length (s .pool .owners)
 owners-stay = size-stays (λ p. length (p .owners)) moved-owners
+
+pub marks-stay : (s : Store) (c : Call) → length (after step s c .pool .marks) ≡ length (s .pool .marks)
+unfolding after
+marks-stay s c =
+    step-ways (λ x. length (x .pool .marks) ≡ length (s .pool .marks)) s c
+    (λ g. usable-words (storeBy (askedOf (c .cdb)) s c) (done-usable s c g) ∙ sym (usable-words s (good-cleared s c g .store))) refl (λ _. refl)
 
 pub medium-stays : (s : Store) (c : Call) → length (after step s c .pool .medium) ≡ length (s .pool .medium)
 medium-stays = size-stays (λ p. length (p .medium)) moved-medium

@@ -1,5 +1,6 @@
--- The demands at the C interface, of a program that calls `ridge_execute` again and again: each time with the record, the owners and the medium as
--- the last call left them. `executed` and `freshened` are what the two functions promise; proofs/AtC proves the records.
+-- The demands at the C interface, of a program that calls `ridge_execute` again and again: each time with the record, the owners, the marks and the
+-- medium as the last call left them. `executed` and `freshened` are what `ridge_execute` and `ridge_fresh` promise; proofs/AtC
+-- proves the records. `ridge_room` is in FreeRoom.antt.
 -- Assumes nothing.
 use mathlib.Core.Path.{_≡_}
 use mathlib.Core.Logic.{_≢_, _⊎_}
@@ -10,6 +11,7 @@ use lib.Dec.{T}
 use lib.ListN.{length, drop}
 use Rattle.answers.specs.Answers.{numberOf}
 use Rattle.answers.specs.Sense.{formatOk}
+use Rattle.pool.specs.Bounds.{markWords}
 use Rattle.pool.specs.Valid.{capacityOk, slotsOk}
 use Rattle.rights.specs.Rights.{isOneOf}
 use Rattle.store.specs.declared.Unit.{Unit}
@@ -36,7 +38,7 @@ toldBy x = record { answer = x .answer; returned = x .returned; dataIn = x .data
 
 -- the store that a call leaves, of the format that it was lent with: the next one is made on it
 unfoldable pub storeIn : ℕ → Left → Store
-storeIn format x = record { format = format; unit = x .unit; pool = record { owners = x .owners; medium = x .medium } }
+storeIn format x = record { format = format; unit = x .unit; pool = record { owners = x .owners; marks = x .marks; medium = x .medium } }
 
 unfoldable pub onward : Store → Event → Store
 onward s (call c) = storeIn (s .format) (executed s c)
@@ -55,7 +57,7 @@ program = record {
 
 -- the store that `ridge_fresh` begins, with the format that it was given and the medium that is lent from then on
 unfoldable pub begun : ℕ → FreshLeft → List ℕ → Store
-begun format x medium = record { format = format; unit = x .unit; pool = record { owners = x .owners; medium = medium } }
+begun format x medium = record { format = format; unit = x .unit; pool = record { owners = x .owners; marks = x .marks; medium = medium } }
 
 -- what is seen of a step, with 01's number for the answer
 unfoldable pub toldOf : Seen → Told
@@ -70,14 +72,16 @@ pub record Faithful : Type 0 where
   -- and so it is over any history
   pub stores : (s : Store) (es : List Event) → afterAll program s es ≡ afterAll (machine step) s es
   pub sights : (s : Store) (es : List Event) → seenAll program s es ≡ map toldOf (seenAll (machine step) s es)
-  -- a history may begin with `ridge_fresh`: within the bounds it answers 0, and what it leaves is a fresh store, whatever lay in the record before
-  pub fresh-answer : (capacity format : ℕ) (u : Unit) (owners : List ℕ) → T (capacityOk capacity) → T (formatOk format) → T (slotsOk (length owners))
-      → freshened capacity format u owners .answer ≡ 0
-  pub fresh-store : (capacity format : ℕ) (u : Unit) (owners medium : List ℕ) → T (capacityOk capacity) → T (formatOk format) → T (slotsOk (length owners))
-      → begun format (freshened capacity format u owners) medium ≡ freshStore capacity format (length owners) medium
-  -- a format that is none gives 11, whatever else is given, and leaves the record and the owners
-  pub fresh-refused : (capacity format : ℕ) (u : Unit) (owners : List ℕ) → T (not (formatOk format))
-      → (freshened capacity format u owners .answer ≡ 11) × (freshened capacity format u owners .unit ≡ u) × (freshened capacity format u owners .owners ≡ owners)
+  -- a history may begin with `ridge_fresh`: within the bounds it answers 0, and what it leaves is a fresh store, whatever lay in the record and
+  -- in the two words of marks before
+  pub fresh-answer : (capacity format : ℕ) (u : Unit) (owners marks : List ℕ) → T (capacityOk capacity) → T (formatOk format) → T (slotsOk (length owners))
+      → length marks ≡ markWords → freshened capacity format u owners marks .answer ≡ 0
+  pub fresh-store : (capacity format : ℕ) (u : Unit) (owners marks medium : List ℕ) → T (capacityOk capacity) → T (formatOk format) → T (slotsOk (length owners))
+      → length marks ≡ markWords → begun format (freshened capacity format u owners marks) medium ≡ freshStore capacity format (length owners) medium
+  -- a format that is none gives 11, whatever else is given, and leaves the record, the owners and the marks
+  pub fresh-refused : (capacity format : ℕ) (u : Unit) (owners marks : List ℕ) → T (not (formatOk format))
+      → (freshened capacity format u owners marks .answer ≡ 11) × (freshened capacity format u owners marks .unit ≡ u)
+      × (freshened capacity format u owners marks .owners ≡ owners) × (freshened capacity format u owners marks .marks ≡ marks)
 
 -- ---- demand 1
 
@@ -85,6 +89,7 @@ pub record Faithful : Type 0 where
 pub record Kept (u : Unit) (s : Store) (c : Call) (x : Left) : Type 0 where
   pub unit : x .unit ≡ u
   pub owners : x .owners ≡ s .pool .owners
+  pub marks : x .marks ≡ s .pool .marks
   pub medium : x .medium ≡ s .pool .medium
   pub dataIn : x .dataIn ≡ c .dataIn
   pub returned : x .returned ≡ 0
@@ -92,7 +97,7 @@ pub record Kept (u : Unit) (s : Store) (c : Call) (x : Left) : Type 0 where
 pub record Demand1AtC : Type 0 where
   -- "Number 9 is not used"
   pub listed : (s : Store) (c : Call) → T (isOneOf (executed s c .answer) (0 ∷ 1 ∷ 2 ∷ 3 ∷ 4 ∷ 5 ∷ 6 ∷ 7 ∷ 8 ∷ 10 ∷ 11 ∷ 12 ∷ 13 ∷ []))
-  -- an answer other than 0 leaves the record, the owners, the medium and data-in as they were, but that 13 takes away what waited for the caller
+  -- an answer other than 0 leaves the record, the owners, the marks, the medium and data-in as they were, but that 13 takes away what waited for the caller
   pub refusal-keeps : (s : Store) (c : Call) → executed s c .answer ≢ 0 → executed s c .answer ≢ 13 → Kept (s .unit) s c (executed s c)
   pub attention-keeps : (s : Store) (c : Call) → executed s c .answer ≡ 13 → Kept (relieved (s .unit) (c .nexus)) s c (executed s c)
   -- a store that can be used can be used for ever
@@ -107,6 +112,7 @@ pub record Demand1AtC : Type 0 where
   pub data-length : (s : Store) (c : Call) → length (executed s c .dataIn) ≡ length (c .dataIn)
   pub sense-length : (s : Store) (c : Call) → length (executed s c .sense) ≡ length (c .sense)
   pub owners-length : (s : Store) (c : Call) → length (executed s c .owners) ≡ length (s .pool .owners)
+  pub marks-length : (s : Store) (c : Call) → length (executed s c .marks) ≡ length (s .pool .marks)
   pub medium-length : (s : Store) (c : Call) → length (executed s c .medium) ≡ length (s .pool .medium)
 
 -- ---- demand 3

@@ -6,6 +6,7 @@ use lib.ListN.{length, replicate}
 use Rattle.fields.specs.Bytes.{zeros}
 use Rattle.fields.specs.Field.{bytes}
 use Rattle.answers.specs.Sense.{fixed}
+use Rattle.pool.specs.Marks.{marksOf}
 use Rattle.rights.specs.declared.Place.{Place}
 use Rattle.rights.specs.Places.{unused}
 use Rattle.rights.specs.Attentions.{noAttentions}
@@ -39,7 +40,7 @@ two = places (at 1 0x11 ∷ at 2 0x22 ∷ [])
 unfoldable pub eight : List Place
 eight = at 1 0x11 ∷ at 2 0x22 ∷ at 3 0x33 ∷ at 4 0x44 ∷ at 5 0x55 ∷ at 6 0x66 ∷ at 7 0x77 ∷ at 8 0x88 ∷ []
 
--- capacity 8, with these owners and bytes of the slots, registrations, type, holder and generation; nothing waits
+-- capacity 8, with these owners, their marks, and bytes of the slots, registrations, type, holder and generation; nothing waits
 unfoldable pub made-of : List ℕ → List ℕ → List Place → ℕ → ℕ → ℕ → Store
 made-of owners medium places kind holder generation = record {
   format = fixed;
@@ -48,7 +49,7 @@ made-of owners medium places kind holder generation = record {
     rights = record { places = places; kind = kind; holder = holder; generation = generation };
     attentions = noAttentions;
   };
-  pool = record { owners = owners; medium = medium };
+  pool = record { owners = owners; marks = marksOf owners; medium = medium };
 }
 
 -- the same with the bytes of before in the slots

@@ -108,7 +108,7 @@ unfoldable pub sameUnit : Unit → Unit → Bool
 sameUnit u v = eqb (u .capacity) (v .capacity) && (sameRights (u .rights) (v .rights) && same (u .attentions) (v .attentions))
 
 unfoldable pub samePool : Pool → Pool → Bool
-samePool p q = same (p .owners) (q .owners) && same (p .medium) (q .medium)
+samePool p q = same (p .owners) (q .owners) && (same (p .marks) (q .marks) && same (p .medium) (q .medium))
 
 -- of what a call shows
 unfoldable pub numberShows : Want → Seen → Bool
@@ -126,7 +126,7 @@ returnedShows w x = eqb (x .returned) (w .returned)
 unfoldable pub dataShows : Want → Seen → Bool
 dataShows w x = same (x .dataIn) (w .dataIn)
 
--- of the store in the end with the one wanted: the format, the unit's record, owners, and every byte of the medium
+-- of the store in the end with the one wanted: the format, the unit's record, owners, marks, and every byte of the medium
 unfoldable pub ends : Store → Store → Bool
 ends w s = eqb (s .format) (w .format) && (sameUnit (s .unit) (w .unit) && samePool (s .pool) (w .pool))
 

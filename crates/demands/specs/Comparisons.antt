@@ -11,6 +11,7 @@ use Rattle.answers.specs.declared.Answer.{Answer}
 use Rattle.answers.specs.declared.Answer.the-variants.{Good, Refused, Conflict, Unusable, Short}
 use Rattle.answers.specs.declared.Status.the-variants.{Given}
 use Rattle.answers.specs.Answers.{numberOf, statusOf}
+use Rattle.pool.specs.Marks.{marksOf}
 use Rattle.pool.specs.Pool.{Pool, pool}
 use Rattle.rights.specs.Rights.{raised}
 use Rattle.store.specs.Store.{Store, Call, Seen, withRights, withUnit, withPool}
@@ -51,7 +52,7 @@ withoutEnd = record { shows = whole .shows; ends = λ w s. true }
 
 -- and one that compares all but the bytes in the slots
 unfoldable pub withoutMedium : Checker
-withoutMedium = record { shows = whole .shows; ends = λ w s. eqb (s .format) (w .format) && (sameUnit (s .unit) (w .unit) && same (s .pool .owners) (w .pool .owners)) }
+withoutMedium = record { shows = whole .shows; ends = λ w s. eqb (s .format) (w .format) && (sameUnit (s .unit) (w .unit) && (same (s .pool .owners) (w .pool .owners) && same (s .pool .marks) (w .pool .marks))) }
 
 -- ---- builds that are wrong in one thing
 
@@ -94,7 +95,9 @@ counting s c = let t = step s c .store in record { seen = step s c .seen; store 
 
 -- slots are given from the highest down: `step` on the two slots turned round
 unfoldable pub turned : Pool → Pool
-turned p = pool (drop 1 (p .owners) ++ take 1 (p .owners)) (drop 512 (p .medium) ++ take 512 (p .medium))
+turned p =
+    let owners = drop 1 (p .owners) ++ take 1 (p .owners) in
+    pool owners (marksOf owners) (drop 512 (p .medium) ++ take 512 (p .medium))
 
 unfoldable pub turnedStore : Store → Store
 turnedStore s = withPool s (turned (s .pool))

@@ -14,6 +14,7 @@ use Rattle.answers.specs.declared.Answer.{Answer}
 use Rattle.answers.specs.declared.Answer.the-variants.{Good}
 use Rattle.answers.specs.Answers.{numberOf}
 use Rattle.answers.specs.Order.{first}
+use Rattle.pool.specs.Marks.{marksOf}
 use Rattle.pool.specs.Pool.{Pool, free, unmapped, readBlocks, unmapBlocks}
 use Rattle.pool.specs.Alike.{Alike}
 use Rattle.descriptors.specs.declared.Descriptor.{Descriptor}
@@ -191,4 +192,4 @@ pub record Same (s t : Store) : Type 0 where
 -- ---- a store with nothing in it, and all that everybody may know
 
 unfoldable pub plain : ℕ → Unit → Store
-plain format u = record { format = format; unit = u; pool = record { owners = zeros 1; medium = zeros 512 } }
+plain format u = record { format = format; unit = u; pool = record { owners = zeros 1; marks = marksOf (zeros 1); medium = zeros 512 } }

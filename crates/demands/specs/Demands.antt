@@ -49,6 +49,7 @@ pub record Demand1 (f : Build) : Type 0 where
   pub data-length : (s : Store) (c : Call) → length (f s c .seen .dataIn) ≡ length (c .dataIn)
   pub sense-length : (s : Store) (c : Call) → length (f s c .seen .sense) ≡ length (c .sense)
   pub owners-length : (s : Store) (c : Call) → length (after f s c .pool .owners) ≡ length (s .pool .owners)
+  pub marks-length : (s : Store) (c : Call) → length (after f s c .pool .marks) ≡ length (s .pool .marks)
   pub medium-length : (s : Store) (c : Call) → length (after f s c .pool .medium) ≡ length (s .pool .medium)
 
 -- Demand 2. "Every answer and the whole state after it are what SPC and SBC define, as document 01 condenses them" and the
@@ -93,7 +94,8 @@ pub record Demand3 (f : Build) : Type 0 where
   -- place), reservation and generation; their blocks and maps may differ. Run a history on each, with the same reservation-out calls and the same
   -- calls by nexuses then shut out from reading, in the same order and with the same lent data and sense buffers. All other calls may differ.
   -- Then each shut-out call gives the same answer, sense and buffer in both." Q-8: "Demand 3's two stores share the format." Q-6: "demand 3 counts
-  -- attentions as equal at the start and asks that calls by a nexus with one waiting agree too": attentions are part of the unit's record
+  -- attentions as equal at the start and asks that calls by a nexus with one waiting agree too": attentions are part of the unit's record. Q-7's marks
+  -- are part of the pool, and may differ as the maps do
   pub secret : (s t : Store) (cs ds : List Call) → T (usable s) → T (usable t) → s .format ≡ t .format → s .unit ≡ t .unit
       → watched f s cs ≡ watched f t ds → heard f s cs ≡ heard f t ds
   -- "Apart from reservation-out calls, a shut-out call changes no stored thing"

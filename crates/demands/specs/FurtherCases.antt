@@ -6,6 +6,7 @@ use lib.ListN.{replicate}
 use Rattle.fields.specs.Bytes.{zeros}
 use Rattle.fields.specs.Field.{bytes}
 use Rattle.answers.specs.Sense.{fixed}
+use Rattle.pool.specs.Marks.{marksOf}
 use Rattle.rights.specs.Places.{unused}
 use Rattle.store.specs.Fresh.{freshStore, freshUnit}
 use Rattle.store.specs.Store.{Call}
@@ -462,7 +463,7 @@ blocks (x ∷ xs) = block x ++ blocks xs
 unfoldable pub caseMostWritten : Case
 caseMostWritten = caseOf (freshStore 128 fixed 128 (replicate 65536 0xEE))
     (write-10 0 0 128 (blocks (rising 1 128)) gives good [] ∷ [])
-    (record { format = fixed; unit = freshUnit 128; pool = record { owners = rising 1 128; medium = blocks (rising 1 128) } })
+    (record { format = fixed; unit = freshUnit 128; pool = record { owners = rising 1 128; marks = marksOf (rising 1 128); medium = blocks (rising 1 128) } })
 
 unfoldable pub furtherCases : List Case
 furtherCases =

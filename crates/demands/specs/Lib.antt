@@ -29,4 +29,7 @@ pub mod Pointed
 pub mod WrongPointers
 pub mod Sensed
 pub mod WrongSense
+pub mod FreeRoom
+pub mod MarkCases
+pub mod WrongMarks
 pub mod Proved

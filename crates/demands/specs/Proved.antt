@@ -10,6 +10,7 @@ use Rattle.answers.specs.Sense.{formatOk}
 use Rattle.pool.specs.Bounds.{blockBytes}
 use Rattle.pool.specs.Valid.{capacityOk, slotsOk}
 use Rattle.store.specs.Fresh.{freshStore}
+use Rattle.store.specs.Room.{roomOf}
 use Rattle.store.specs.Step.{step}
 use Rattle.demands.specs.History.{machine}
 use Rattle.demands.specs.Contents.{plain}
@@ -24,6 +25,7 @@ use Rattle.demands.specs.MapTold.{OnePage, MapTold}
 use Rattle.demands.specs.Limits.{Limits}
 use Rattle.demands.specs.Pointed.{Pointed, PlacesTrue}
 use Rattle.demands.specs.Sensed.{Sensed}
+use Rattle.demands.specs.FreeRoom.{MarksDecide, KeepsMarks, RefusesMarks, TellsRoom, Relies, RoomEver, RoomAtC}
 use Rattle.demands.specs.FromFresh.{FromFresh}
 use Rattle.demands.specs.AtC.{Faithful, Demand1AtC, Demand3AtC}
 
@@ -31,8 +33,8 @@ pub record Proved : Type 0 where
   -- every call gets a listed answer, and a refusal changes nothing
   pub demand-1 : Demand1 step
   -- every answer and the whole state after it are what the rules say; and so it looks to those who write and read, who reserve, who take over, who ask,
-  -- who clear logs, who ask for the map, who keep to the limits that they have read, who want to know which byte was wrong, who read sense, and who are told
-  -- what others did to their registration or reservation
+  -- who clear logs, who ask for the map, who keep to the limits that they have read, who want to know which byte was wrong, who read sense, who are told
+  -- what others did to their registration or reservation, and who ask for the free room before each batch
   pub demand-2 : Demand2 step
   pub storage : Storage
   pub reservations : Reservations step
@@ -50,6 +52,11 @@ pub record Proved : Type 0 where
   pub sensed : Sensed step
   pub attentions : Attentions step
   pub none-lost : NoneLost step
+  pub marks-decide : MarksDecide
+  pub keeps-marks : KeepsMarks step
+  pub refuses-marks : RefusesMarks step
+  pub tells-room : TellsRoom roomOf
+  pub relies : Relies step roomOf
   -- step by step from a fresh store
   pub from-fresh : (capacity format slots : ℕ) (medium : List ℕ) → T (capacityOk capacity) → T (formatOk format) → T (slotsOk slots)
       → length medium ≡ blockBytes * slots → FromFresh (freshStore capacity format slots medium)
@@ -57,6 +64,8 @@ pub record Proved : Type 0 where
       → length medium ≡ blockBytes * slots → (t : Story format) → TakenOver step (freshStore capacity format slots medium) t
   pub learns : (capacity format slots : ℕ) (medium : List ℕ) → T (capacityOk capacity) → T (formatOk format) → T (slotsOk slots)
       → length medium ≡ blockBytes * slots → (t : Story format) → Learns step (freshStore capacity format slots medium) t
+  pub room-ever : (capacity format slots : ℕ) (medium : List ℕ) → T (capacityOk capacity) → T (formatOk format) → T (slotsOk slots)
+      → length medium ≡ blockBytes * slots → RoomEver step roomOf (freshStore capacity format slots medium)
   -- nexuses shut out from reading learn nothing of blocks and maps
   pub demand-3 : Demand3 step
   pub secrecy : Secrecy (machine step) plain
@@ -64,3 +73,4 @@ pub record Proved : Type 0 where
   pub faithful : Faithful
   pub demand-1-at-c : Demand1AtC
   pub demand-3-at-c : Demand3AtC
+  pub room-at-c : RoomAtC

@@ -9,6 +9,7 @@ use Rattle.fields.specs.Bytes.{put, zeros}
 use Rattle.fields.specs.Field.{byte, field, bytes}
 use Rattle.answers.specs.declared.Answer.the-variants.{Conflict}
 use Rattle.answers.specs.Sense.{fixed}
+use Rattle.pool.specs.Marks.{marksOf}
 use Rattle.pool.specs.Pool.{pool}
 use Rattle.rights.specs.Places.{unused, registration}
 use Rattle.rights.specs.Rights.{isOneOf, holds, withPlaces, ended}
@@ -91,7 +92,7 @@ shown = record {
     };
     attentions = noAttentions;
   };
-  pool = pool (0 ∷ []) (zeros 512);
+  pool = pool (0 ∷ []) (marksOf (0 ∷ [])) (zeros 512);
 }
 
 unfoldable pub showing : List ℕ → ℕ → List ℕ → Call
@@ -119,7 +120,7 @@ writesSame = showing (0x93 ∷ 0x09 ∷ (zeros 11 ++ (2 ∷ 0 ∷ 0 ∷ []))) 1 
 
 -- block 1 is mapped there
 unfoldable pub logged : Store
-logged = withPool shown (pool (2 ∷ []) (zeros 511 ++ (0xB0 ∷ [])))
+logged = withPool shown (pool (2 ∷ []) (marksOf (2 ∷ [])) (zeros 511 ++ (0xB0 ∷ [])))
 
 -- capacity 8 and one slot with this owner; type 3, held by nexus 1
 unfoldable pub guarded : ℕ → Store
@@ -135,7 +136,7 @@ guarded owner = record {
     };
     attentions = noAttentions;
   };
-  pool = pool (owner ∷ []) (zeros 512);
+  pool = pool (owner ∷ []) (marksOf (owner ∷ [])) (zeros 512);
 }
 
 -- GET LBA STATUS of everything by a nexus that is shut out

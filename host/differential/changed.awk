@@ -20,8 +20,8 @@ function end_item() {
         known[item] = 1
     else if (is_function)
         print_function()
-    else if (item in known || item ~ /^static [^={]*\);\n$/ || item ~ /^static [^=]*\) [{][^\n]*[}]\n$/)
-        printf "%s", whole || item !~ /\);\n$/ ? item : substr(item, length("static ") + 1)
+    else if ((item in known) || item ~ /^static [^={]*\);\n$/ || item ~ /^static [^=]*\) [{][^\n]*[}]\n$/)
+        printf "%s", (whole || item !~ /\);\n$/ ? item : substr(item, length("static ") + 1))
     else
         exit 2
     item = head = ""
@@ -29,7 +29,7 @@ function end_item() {
 }
 
 function print_function(    text) {
-    text = !whole && item in known ? substr(head, 1, length(head) - 1) ";\n" : item
+    text = !whole && (item in known) ? substr(head, 1, length(head) - 1) ";\n" : item
     sub(/^static /, "", text)
     printf "%s", text
 }

@@ -656,7 +656,7 @@ static void damage_sizes(struct run *run)
     }
 }
 
-/* What such slots hold: those that the store has not are free, and the marks go
+/* What such slots hold: those that the store lacks are free, and the marks go
    with the others, so that the sizes alone are wrong. */
 static void fit_slots(struct run *run)
 {

@@ -546,8 +546,8 @@ static uint64_t generate_count(struct random *random, const struct store *store,
 
 /*
  * A range of 100 to 128 blocks that begins at or just behind the block in slot
- * 0, where the blocks of a large store in order begin. Counts that would reach
- * past the end are mostly cut.
+ * 0, where the blocks of a large store in order begin, or where all blocks do.
+ * Counts that would reach past the end are mostly cut.
  */
 static void large_range(struct random *random, const struct store *store,
                         uint64_t *address, uint64_t *count)
@@ -556,6 +556,8 @@ static void large_range(struct random *random, const struct store *store,
     uint64_t first = store->owners[0];
 
     *address = first == 0 ? address_within(random, capacity) : first - 1;
+    if (first == 0 && random_percent(random, 40))
+        *address = 0;
     if (random_percent(random, 25))
         *address += random_below(random, 4);
     *count = random_percent(random, 50)

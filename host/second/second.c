@@ -207,7 +207,7 @@ static struct ridge_marks marks_of(const uint64_t *owners, size_t slots)
     return marks;
 }
 
-/* All bits of both words count, those of slots that the pool has not too. */
+/* All bits of both words count, also those of slots that the pool lacks. */
 static bool valid_marks(const struct ridge_marks *marks,
                         const uint64_t *owners, size_t slots)
 {

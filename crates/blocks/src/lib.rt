@@ -41,7 +41,8 @@ pub fn move_blocks(
 ) -> Reply
     requires { ⌜ Bounded capacity (now owners) (now marks) (now medium) × (T (isCounted (Moves what)) → request .size ≤ mostTransfer) ⌝ }
     ensures { λ r. ⌜ moving (replied r (now («data_in» .exit))) (now (owners .exit)) (now (marks .exit)) (now (medium .exit))
-        ≡ moves what request capacity (pool (now (owners .entry)) (now (marks .entry)) (now (medium .entry))) (now («data_out» .entry)) (now («data_in» .entry)) ⌝ }
+        ≡ moves what request capacity (pool (now (owners .entry)) (now (marks .entry)) (now (medium .entry)))
+        (now («data_out» .entry)) (now («data_in» .entry)) ⌝ }
 {
     let lba = request.address;
     let size = request.size;

@@ -1,4 +1,6 @@
 // The six actions of PERSISTENT RESERVE OUT: each tests what its rows test, in their order, and then changes the rights.
+#![tactic(auto)]
+
 ghost use Rattle.std.specs.Prelude.{◌≡◌, not, [], ◌∷◌};
 ghost use Rattle.answers.specs.Order.{◌if◌, first};
 ghost use Rattle.answers.specs.Answers.{list_field, no_place};

@@ -1,4 +1,6 @@
 // PERSISTENT RESERVE OUT: it sees and changes the rights alone.
+#![tactic(auto)]
+
 ghost use Rattle.std.specs.Prelude.{◌≡◌};
 ghost use Rattle.store.specs.Alter.{parameters_of};
 ghost use Rattle.alter.specs.Altered.{altered};

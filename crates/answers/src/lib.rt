@@ -1,4 +1,6 @@
 // What a call answers: GOOD, a refusal with its sense, a reservation conflict, or no status at all.
+#![tactic(auto)]
+
 ghost use Rattle.std.specs.Prelude.{◌≡◌};
 ghost use Rattle.answers.specs.declared.Answer.TheVariants.{Refused};
 ghost use Rattle.answers.specs.declared.Refusal.TheVariants.{InvalidField, ListField};
@@ -11,7 +13,7 @@ pub mod sense;
 // its first byte, its highest bit and how many bits it has. Sense has no room for the last; it is there so that one field is named and no other.
 // Two name a block: where the range begins that reaches past the capacity, or that is not to be written for lack of slots. The last three are what
 // can wait for a nexus, and share a number.
-#[derive(Drop)]
+#[derive(Clone, Copy)]
 pub enum Refusal {
     NotListed,
     InvalidField(u8, u8, u8),
@@ -27,7 +29,7 @@ pub enum Refusal {
 }
 
 // A row of that table: 01's number, the sense key, the additional sense code and its qualifier.
-#[derive(Drop)]
+#[derive(Clone, Copy)]
 pub struct Codes {
     pub number: u64,
     pub key: u8,
@@ -35,7 +37,7 @@ pub struct Codes {
     pub ascq: u8,
 }
 
-#[derive(Drop)]
+#[derive(Clone, Copy)]
 pub enum Answer {
     Good,
     Refused(Refusal),
@@ -45,7 +47,7 @@ pub enum Answer {
 }
 
 // The status byte that a transport would carry, where there is one.
-#[derive(Drop)]
+#[derive(Clone, Copy)]
 pub enum Status {
     Given(u8),
     Nothing,

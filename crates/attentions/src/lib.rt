@@ -1,4 +1,6 @@
 // Unit attentions: which are valid, what waits for a nexus, how it is returned, and what an action has wait for others.
+#![tactic(auto)]
+
 ghost use Rattle.std.specs.Prelude.{◌≡◌};
 ghost use Rattle.rights.specs.Attentions.{refusal_of, attentions_ok, no_attentions, waiting_for, returned_to};
 

@@ -1,4 +1,6 @@
 // The check of a pool's owner numbers and marks, in one pass; and what is wrong with the owner numbers, where something is.
+#![tactic(auto)]
+
 ghost use Rattle.std.specs.Prelude.{◌≡◌, ◌&&◌, ◌≤◌, min, length, get_or, take};
 ghost use Rattle.pool.specs.Bounds.{most_slots};
 ghost use Rattle.pool.specs.Marks.{marks_ok};

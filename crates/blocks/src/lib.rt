@@ -1,4 +1,6 @@
 // Commands on the blocks and their map, once the reservation has let them pass: they see the pool, and change it alone.
+#![tactic(auto)]
+
 pub mod same;
 pub mod status;
 pub mod transfer;

@@ -1,4 +1,6 @@
 // One call to the store: the order of its tests, and the command that it asks for.
+#![tactic(auto)]
+
 mod act;
 mod stages;
 

@@ -1,4 +1,6 @@
 // The conflict table, as docs/CONFLICTS.md shows it: a row for each command, a column for each reservation and sender. It is looked up.
+#![tactic(auto)]
+
 ghost use Rattle.std.specs.Prelude.{◌≡◌, cond};
 ghost use Rattle.rights.specs.Places.{registered};
 ghost use Rattle.store.specs.declared.Column.TheVariants.{At};

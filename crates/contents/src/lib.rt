@@ -1,4 +1,6 @@
 // The contents of a call sheet: where each call's body stands, and whether the sheet is as long as it says.
+#![tactic(auto)]
+
 ghost use Rattle.std.specs.Prelude.{◌≡◌, ◌+◌, ◌*◌, ◌^◌, ◌≤◌, ◌<◌};
 ghost use Rattle.contents.specs.Contents.{calls, nexus_of, cdb_length, out_length, body_end, bodies_end, good_sheet};
 

@@ -1,4 +1,6 @@
 // Decoding a CDB, once: what the table has for it, whether its fields are right, and the request that it makes.
+#![tactic(auto)]
+
 ghost use Rattle.std.specs.Prelude.{◌≡◌, ◌≤◌};
 ghost use Rattle.fields.specs.Bits.{number_in};
 ghost use Rattle.answers.specs.Answers.{invalid_field};
@@ -16,7 +18,7 @@ use pool::{Lba, MOST_TRANSFER};
 mod codes;
 
 // A request, or the answer that refuses it.
-#[derive(Drop)]
+#[derive(Clone, Copy)]
 pub enum Decoded {
     Asks(Request),
     Wrong(Answer),

@@ -3,7 +3,7 @@
 -- Assumes nothing.
 use mathlib.Core.Path.{◌≡◌, refl, sym, ap, ◌∙◌, subst}
 use mathlib.Core.Logic.{◌↔◌}
-use mathlib.Core.Bool.{Bool, true, false, not, ◌&&◌, ◌||◌, and_false, and_true}
+use mathlib.Core.Bool.{Bool, true, false, not, ◌&&◌, ◌||◌, and-false, and-true}
 use mathlib.Core.List.{List, [], ◌∷◌}
 use Prim.Native.Nat.{ℕ, zero, suc, ◌+◌, ◌*◌, ◌≤◌, ◌<◌}
 use native.Mathlib.Omega.{arith}
@@ -57,7 +57,7 @@ module _ (s : Store) (c : Call) (a : Asks Unmap c) (r : Reaches s a) (l : ListTh
   header_there : (leb 1 (list_length_in a.request) && leb (list_length_in a.request) 7) ≡ false
   header_there =
       ap (λ (q : Bool). leb 1 (list_length_in a.request) && q) (lt-leb (list_length_in a.request) 7 l.header)
-      ∙ and_false (leb 1 (list_length_in a.request))
+      ∙ and-false (leb 1 (list_length_in a.request))
 
   -- a list that is there is tested for its descriptors alone
   descriptors_tested : (step s c).seen.answer
@@ -118,7 +118,7 @@ counts_good s c a r l few =
 -- after an UNMAP the blocks that its descriptors name are unmapped, and no others
 each_mapped : (ds : List Descriptor) (p : Pool) (b : ℕ) → mapped (unmap_each p ds).owners b ≡ (mapped p.owners b && not (names ds b))
 unfolding unmap_each names covers unmap_blocks
-each_mapped [] p b = sym (and_true (mapped p.owners b))
+each_mapped [] p b = sym (and-true (mapped p.owners b))
 each_mapped (d ∷ ds) p b =
     each_mapped ds (unmap_blocks p d.address.0 d.count) b
     ∙ ap (λ (q : Bool). q && not (names ds b)) (range_unmapped p.owners d.address.0 d.count b)
@@ -131,7 +131,7 @@ each_mapped (d ∷ ds) p b =
 
 -- a block that is one of them is not mapped
 named_unmapped : (x y z : Bool) → x ≡ (y && not z) → T z → x ≡ false
-named_unmapped x y z e t = e ∙ ap (λ (q : Bool). y && not q) (T_true z t) ∙ and_false y
+named_unmapped x y z e t = e ∙ ap (λ (q : Bool). y && not q) (T_true z t) ∙ and-false y
 
 pub unmap_unmaps : UnmapUnmaps step
 unmap_unmaps s c a e b t =

@@ -3,7 +3,7 @@
 -- Assumes nothing.
 use mathlib.Core.Path.{◌≡◌, refl, sym, ap, ap₂, ◌∙◌, subst}
 use mathlib.Core.Logic.{◌↔◌, ◌≢◌}
-use mathlib.Core.Bool.{Bool, true, false, not, ◌&&◌, cond, and_false, and_true, true≢false}
+use mathlib.Core.Bool.{Bool, true, false, not, ◌&&◌, cond, and-false, and-true, true≢false}
 use mathlib.Core.List.{List, []}
 use Prim.Native.Nat.{ℕ, suc, ◌+◌, ◌*◌, ◌≤◌, ◌<◌}
 use native.Mathlib.Omega.{arith}
@@ -60,8 +60,8 @@ by_range a n b P f g =
 pub range_unmapped : (owners : List ℕ) (a n b : ℕ) → mapped (unmap_owners owners a n) b ≡ (mapped owners b && not (in_range a n b))
 range_unmapped owners a n b =
     by_range a n b (λ q. mapped (unmap_owners owners a n) b ≡ (mapped owners b && not q))
-    (λ i h e. ap (mapped (unmap_owners owners a n)) e ∙ mapped_unmap_in owners a n i h ∙ sym (and_false (mapped owners b)))
-    (λ out. mapped_unmap_out owners a n b out ∙ sym (and_true (mapped owners b)))
+    (λ i h e. ap (mapped (unmap_owners owners a n)) e ∙ mapped_unmap_in owners a n i h ∙ sym (and-false (mapped owners b)))
+    (λ out. mapped_unmap_out owners a n b out ∙ sym (and-true (mapped owners b)))
 
 range_out : (a n b : ℕ) → T (not (in_range a n b)) → Outside a n b
 range_out a n b t = in_or_out a n b (λ i h e. absurd (T_not (in_range a n b) t (range_in a n b (omega arith) (omega arith)))) (λ out. out)

@@ -1,4 +1,6 @@
 // The UNMAP parameter list: its descriptors are taken one after another from the list as lent.
+#![tactic(auto)]
+
 ghost use Rattle.std.specs.Prelude.{◌≡◌, false, ◌+◌, ◌≤◌, ◌<◌, ◌^◌, length};
 ghost use Rattle.pool.specs.Bounds.{most_blocks, most_slots};
 ghost use Rattle.pool.specs.Marks.{marks_of};
@@ -14,28 +16,28 @@ pub const MOST_DESCRIPTORS: usize = 16;
 pub const DATA_LENGTH_BYTE: u8 = 2;
 
 // A range of blocks to unmap.
-#[derive(Drop)]
+#[derive(Clone, Copy)]
 pub struct Descriptor {
     pub address: Lba,
     pub count: u64,
 }
 
 // The list as lent, and the place of the descriptor that comes next.
-#[derive(Drop)]
+#[derive(Clone, Copy)]
 pub struct DescriptorReader<'a> {
     list: &'a [u8],
     at: usize,
 }
 
 // A descriptor, and the reader behind it.
-#[derive(Drop)]
+#[derive(Clone, Copy)]
 pub struct Taken<'a> {
     descriptor: Descriptor,
     rest: DescriptorReader<'a>,
 }
 
 // Which descriptor fails first, by its address.
-#[derive(Drop)]
+#[derive(Clone, Copy)]
 pub enum Failing {
     At(Lba),
     Nothing,

@@ -1,4 +1,6 @@
 // The line of an outcome, put into a lent buffer from a place on; each function answers the place behind what it put.
+#![tactic(auto)]
+
 ghost use Rattle.std.specs.Prelude.{◌≡◌, ◌∷◌, ◌+◌, ◌≤◌, ◌<◌, min, length};
 ghost use Rattle.answers.specs.Answers.{codes_of, status_of};
 ghost use Rattle.text.specs.Text.{comma, decimal};

@@ -1,5 +1,7 @@
 // The marks of a pool, two words of 64 bits: slot i is bit i % 64 of word i / 64. How many slots are marked and which is the lowest that is
 // not is read off the words, without a look at the owners. Giving slots works on the two words by value, so that its loop has them in registers.
+#![tactic(auto)]
+
 ghost use Rattle.std.specs.Prelude.{◌≡◌, ◌<◌, ◌≤◌, length};
 ghost use Rattle.std.specs.Int.Bits.{bit_or};
 ghost use Rattle.std.specs.Int.Count.{ones};
@@ -11,14 +13,14 @@ ghost use Rattle.marks.specs.Words.{both, bit_of, with_mark, without_mark};
 use pool::{Slot, WORD_SLOTS};
 
 // The words of marks: that of slots 0 to 63, and that of the others.
-#[derive(Drop)]
+#[derive(Clone, Copy)]
 pub struct Words {
     pub low: u64,
     pub high: u64,
 }
 
 // A slot that was not marked, and the words with its mark.
-#[derive(Drop)]
+#[derive(Clone, Copy)]
 pub struct Taken {
     pub slot: Slot,
     pub words: Words,

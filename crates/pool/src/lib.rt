@@ -1,15 +1,16 @@
 // The pool: its types and its bounds. It has no function: specs/ say what a pool means, proofs/ what follows.
+#![tactic(auto)]
 
 // A block address, counted from 0.
-#[derive(Drop)]
+#[derive(Clone, Copy)]
 pub struct Lba(pub u64);
 
 // A slot of the pool, counted from 0.
-#[derive(Drop)]
+#[derive(Clone, Copy)]
 pub struct Slot(pub usize);
 
 // What a check of the owner numbers says.
-#[derive(Drop)]
+#[derive(Clone, Copy)]
 pub enum Checked {
     Valid,
     Beyond(Slot),

@@ -1,4 +1,6 @@
 // The first tests of every call: who calls, what is lent, and whether the store is within its bounds and valid.
+#![tactic(auto)]
+
 ghost use Rattle.std.specs.Prelude.{◌≡◌, []};
 ghost use Rattle.pool.specs.Pool.{pool};
 ghost use Rattle.pool.specs.Valid.{capacity_ok, slots_ok, pool_ok};

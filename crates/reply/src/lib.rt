@@ -1,18 +1,20 @@
 // What a command leaves beside the lent buffers: the types stand here, what contracts say of them in specs/, their laws in proofs/.
+#![tactic(auto)]
+
 use answers::Answer;
 use store::Unit;
 
 pub mod cut;
 
 // What a command that returns bytes leaves.
-#[derive(Drop)]
+#[derive(Clone, Copy)]
 pub struct Reply {
     pub answer: Answer,
     pub returned: usize,
 }
 
 // What a call leaves.
-#[derive(Drop)]
+#[derive(Clone, Copy)]
 pub struct Outcome {
     pub answer: Answer,
     pub returned: usize,
@@ -20,7 +22,7 @@ pub struct Outcome {
 }
 
 // What making a fresh store leaves.
-#[derive(Drop)]
+#[derive(Clone, Copy)]
 pub struct Made {
     pub answer: Answer,
     pub unit: Unit,

@@ -8,7 +8,7 @@ ghost use Rattle.reservations.specs.Search.{wants, seek, has, after, sound_befor
 use rights::{LAST_NEXUS, Place, REGISTRATION_PLACES};
 
 // What a place is looked for by: its nexus, its key, that it is used, that it is free.
-#[derive(Drop)]
+#[derive(Clone, Copy)]
 pub enum Want {
     Of(u64),
     Keyed(u64),
@@ -101,7 +101,7 @@ pub fn enrol(
 }
 
 // What is done to every place: the key of a nexus changed (0 unregisters), all with a key removed, those but a nexus, all but a nexus, or all emptied.
-#[derive(Drop)]
+#[derive(Clone, Copy)]
 pub enum Change {
     Rekey(u64, u64),
     Remove(u64),

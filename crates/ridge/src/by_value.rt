@@ -9,7 +9,7 @@ use pool::MARK_WORDS;
 use store::Unit;
 
 // What a function of the interface leaves beside the lent buffers: the unit, and document 01's number.
-#[derive(Drop)]
+#[derive(Clone, Copy)]
 pub struct Done {
     pub unit: Unit,
     pub answer: u64,

@@ -3,6 +3,8 @@
 // the holder at 128, the generation at 136 and the type at 140; the attentions at 152. Any 168 bytes are one, so nothing is required of them.
 // Each function takes the record out, calls its half in `by_value`, and puts the record back: a function over a lent record is walked by hand,
 // so the meaning stands there.
+#![tactic(auto)]
+
 ghost use Rattle.std.specs.Prelude.{◌≡◌};
 ghost use Rattle.reply.specs.Contract.{store_of, call_of};
 ghost use Rattle.ridge.specs.Interface.{executed, freshened, roomed, leaves, leaves_fresh, leaves_room};

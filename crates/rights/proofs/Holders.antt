@@ -1,7 +1,7 @@
 -- Who is registered, with which key, and who holds, after registrations come, change and go and after a reservation is made or ends.
 -- Assumes nothing.
 use mathlib.Core.Path.{◌≡◌, refl, sym, ap, ◌∙◌, subst}
-use mathlib.Core.Bool.{Bool, true, false, not, ◌&&◌, ◌||◌, cond, true≢false, and_false}
+use mathlib.Core.Bool.{Bool, true, false, not, ◌&&◌, ◌||◌, cond, true≢false, and-false}
 use mathlib.Core.List.{List, [], ◌∷◌, map}
 use Prim.Native.Nat.{ℕ}
 use lib.Dec.{T, eqb, eqb→eq, eqb_refl, T_not}
@@ -262,7 +262,7 @@ holds_places r qs m f = go (one_holds r.kind && eqb r.holder m) (all_hold r.kind
     go : (e a g h : Bool) → (T h → T g) → ((e || (a && h)) && h) ≡ ((e || (a && g)) && h)
     go e a true true f = refl
     go e a false true f = absurd (f tt)
-    go e a g false f = and_false (e || (a && false)) ∙ sym (and_false (e || (a && g)))
+    go e a g false f = and-false (e || (a && false)) ∙ sym (and-false (e || (a && g)))
 
 holds_regrouped : (r : Rights) (qs : List Place) (m : ℕ)
     → (holds (with_places r qs) m && registered m qs) ≡ (registered m qs && (holds r m || all_hold r.kind))
@@ -275,7 +275,7 @@ holds_regrouped r qs m = go (one_holds r.kind && eqb r.holder m) (all_hold r.kin
     go false true true true = refl
     go false true false true = refl
     go false false g true = refl
-    go e a g false = and_false (e || (a && false))
+    go e a g false = and-false (e || (a && false))
 
 -- with registrations among which the one that holds still is
 holds_kept : (r : Rights) (qs : List Place) (m : ℕ) → (T (one_holds r.kind) → r.holder ≡ m → T (registered m qs))

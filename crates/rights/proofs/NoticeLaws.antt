@@ -1,7 +1,7 @@
 -- What another nexus is told of each action, by the rights that the action found, its sender and its parameters alone.
 -- Assumes nothing.
 use mathlib.Core.Path.{◌≡◌, refl, sym, ap, ◌∙◌, subst}
-use mathlib.Core.Bool.{Bool, true, false, not, ◌&&◌, ◌||◌, cond, and_true, and_false}
+use mathlib.Core.Bool.{Bool, true, false, not, ◌&&◌, ◌||◌, cond, and-true, and-false}
 use mathlib.Core.List.{[], ◌∷◌}
 use Prim.Native.Nat.{ℕ}
 use lib.Dec.{T, eqb, eqb→eq, eqb_refl}
@@ -42,8 +42,8 @@ unfolding release_notice released
 release_told before after m kind f = ap told (go (for_registrants before.kind) (registered m after.places) f)
   where
     go : (t g : Bool) → (T t → T g → after.kind ≡ kind) → ((t && not (eqb after.kind before.kind)) && g) ≡ (g && (t && not (eqb kind before.kind)))
-    go true true h = rw (h tt tt, and_true (not (eqb kind before.kind)))
-    go true false h = and_false (not (eqb after.kind before.kind))
+    go true true h = rw (h tt tt, and-true (not (eqb kind before.kind)))
+    go true false h = and-false (not (eqb after.kind before.kind))
     go false true h = refl
     go false false h = refl
 
@@ -145,7 +145,7 @@ registering_notice r n k m ok d =
   where
     go : (z f b : Bool) → (f && (z && b)) ≡ (z && (f && b))
     go true f b = refl
-    go false f b = and_false f
+    go false f b = and-false f
 
 -- ---- RESERVE
 
@@ -173,7 +173,7 @@ releasing_notice r n m =
 pub clearing_notice : (r : Rights) (m : ℕ) → notice Clear r (clearing r) m ≡ cond (registered m r.places) 2 0
 unfolding notice removed clearing raised with_generation ended with_reservation with_places
 clearing_notice r m =
-    rw (T_false (registered m (clearing r).places) (none_registered m (clearing r).places (key_cleared m r.places)), and_true (registered m r.places))
+    rw (T_false (registered m (clearing r).places) (none_registered m (clearing r).places (key_cleared m r.places)), and-true (registered m r.places))
 
 -- ---- PREEMPT of a key
 
@@ -190,8 +190,8 @@ module _ (r : Rights) (n kind k : ℕ) (ok : T (rights_ok r)) where
       ∙ ap (λ (b : Bool). b && not (eqb (key_of m r.places) k)) (sym (registered_key m r.places))
     where
       go : (e : Bool) → not (eqb (cond (e && true) 0 (key_of m r.places)) 0) ≡ (not (eqb (key_of m r.places) 0) && not e)
-      go true = sym (and_false (not (eqb (key_of m r.places) 0)))
-      go false = sym (and_true (not (eqb (key_of m r.places) 0)))
+      go true = sym (and-false (not (eqb (key_of m r.places) 0)))
+      go false = sym (and-true (not (eqb (key_of m r.places) 0)))
 
   -- where the key is not the holder's, and one is left to be told, the type stays
   module _ (t : T (not (eqb (holder_key r) k))) where
@@ -239,7 +239,7 @@ preempting_notice r n kind k m ok d =
         ≡ cond (g && e) x (cond (g && (w && (f && not (eqb kind r.kind)))) y z)
     go true true w f x y z = refl
     go true false true f x y z = refl
-    go true false false f x y z = rw (T_true (eqb r.kind r.kind) (eqb_refl r.kind), and_false f)
+    go true false false f x y z = rw (T_true (eqb r.kind r.kind) (eqb_refl r.kind), and-false f)
     go false e w f x y z = refl
 
 -- ---- PREEMPT with the key 0

@@ -1,5 +1,7 @@
 // Who may do what, as a meaning: registrations, the reservation, the six actions, what is told of them, and what waits for whom.
 // No code: the types stand here, what they mean in specs/, the laws in proofs/.
+#![tactic(auto)]
+
 use answers::Answer;
 
 // The highest nexus number.
@@ -27,7 +29,7 @@ pub const FLAGS_BYTE: u8 = 20;
 
 // A registration place; it is used exactly if its key is not 0.
 #[repr(C)]
-#[derive(Drop)]
+#[derive(Clone, Copy)]
 pub struct Place {
     pub nexus: u64,
     pub key: u64,
@@ -35,7 +37,7 @@ pub struct Place {
 
 // The registrations, the reservation (type 0 where there is none) and the generation.
 #[repr(C)]
-#[derive(Drop)]
+#[derive(Clone, Copy)]
 pub struct Rights {
     pub places: [Place; REGISTRATION_PLACES],
     pub holder: u64,
@@ -44,7 +46,7 @@ pub struct Rights {
 }
 
 // The service actions of PERSISTENT RESERVE OUT.
-#[derive(Drop)]
+#[derive(Clone, Copy)]
 pub enum Action {
     Register,
     Reserve,
@@ -55,7 +57,7 @@ pub enum Action {
 }
 
 // What a reservation-out call says beside its action: the type, the key, the service action key, and the byte of the flags.
-#[derive(Drop)]
+#[derive(Clone, Copy)]
 pub struct Parameters {
     pub kind: u32,
     pub key: u64,
@@ -64,7 +66,7 @@ pub struct Parameters {
 }
 
 // The answer to an action, and the rights after it.
-#[derive(Drop)]
+#[derive(Clone, Copy)]
 pub struct Decision {
     pub answer: Answer,
     pub rights: Rights,

@@ -1,4 +1,6 @@
 // The runs of the map, and the page that tells them.
+#![tactic(auto)]
+
 ghost use Rattle.std.specs.Prelude.{◌≡◌, ◌≤◌, ◌<◌, length};
 ghost use Rattle.fields.specs.Bytes.{put};
 ghost use Rattle.pool.specs.Bounds.{most_blocks, most_slots};

@@ -9,7 +9,7 @@ use map::slots;
 use pool::{Lba, MOST_SLOTS};
 
 // Blocks from `start` on that are all mapped, where `held` says so, or else all unmapped; and whether those behind them are likely to be mapped.
-#[derive(Drop)]
+#[derive(Clone, Copy)]
 pub struct Run {
     pub start: Lba,
     pub count: u64,

@@ -22,7 +22,7 @@ const SLOTS: usize = 2;
 const DATA_IN: usize = 4096;
 
 // What a call leaves beside the lent buffers: the unit, and the place behind the line.
-#[derive(Drop)]
+#[derive(Clone, Copy)]
 struct Served {
     unit: Unit,
     end: usize,

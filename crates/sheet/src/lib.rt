@@ -1,4 +1,6 @@
 // Call sheets: which are good, and what one prints when its calls are run on a fresh store of capacity 8 and 2 slots.
+#![tactic(auto)]
+
 mod calls;
 
 ghost use Rattle.std.specs.Prelude.{◌≡◌, ◌≤◌, length};

@@ -1,7 +1,7 @@
 -- The conflict table: it says what the rule says, of every rights, nexus and command.
 -- Assumes nothing.
 use mathlib.Core.Path.{◌≡◌, refl, sym, ◌∙◌, subst, subst⁻¹}
-use mathlib.Core.Bool.{Bool, true, false, not, ◌&&◌, ◌||◌, cond, and_false, and_true, or-true}
+use mathlib.Core.Bool.{Bool, true, false, not, ◌&&◌, ◌||◌, cond, and-false, and-true, or-true}
 use mathlib.Core.List.{[], ◌∷◌}
 use Prim.Native.Nat.{ℕ, ◌<◌}
 use borrow.Author.Tests.{ne_eqb}
@@ -120,12 +120,12 @@ module _ (r : Rights) (n : ℕ) (k : Command) where
   -- "under 5 and 6 nor is a registered nexus"
   pub registrant_passes : is_one_of r.kind (5 ∷ 6 ∷ []) ≡ true → registered n r.places ≡ true → conflict r n k ≡ false
   unfolding ruled passes
-  registrant_passes e h = table_rule r n k ∙ rw (e, h, or-true, and_false)
+  registrant_passes e h = table_rule r n k ∙ rw (e, h, or-true, and-false)
 
   -- "For all others"
   pub outsider_stopped : holds r n ≡ false → registered n r.places ≡ false → conflict r n k ≡ stops r.kind k
   unfolding ruled passes
-  outsider_stopped e h = table_rule r n k ∙ rw (e, h, and_false, and_true)
+  outsider_stopped e h = table_rule r n k ∙ rw (e, h, and-false, and-true)
 
 -- where READ conflicts, so does every command on the blocks
 reads_least : (kind : ℕ) (m : Move) → T (stops kind (Moves Read)) → T (stops kind (Moves m))

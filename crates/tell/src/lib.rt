@@ -1,4 +1,6 @@
 // Commands that tell what everybody may know. Each builds all that is there to be told; `reply::cut` cuts and lends it.
+#![tactic(auto)]
+
 ghost use Rattle.std.specs.Prelude.{◌≡◌, ◌≤◌};
 ghost use Rattle.reply.specs.Reply.{replied};
 ghost use Rattle.tell.specs.Telling.{tells, tells_page};

@@ -1,4 +1,6 @@
 // Texts put into a lent buffer from a place on. Each function answers the place behind what it put; the buffer's other bytes stay.
+#![tactic(auto)]
+
 ghost use Rattle.std.specs.Prelude.{◌≡◌, [], ◌∷◌, ◌+◌, ◌*◌, ◌≤◌, ◌<◌, length};
 ghost use Rattle.text.specs.Text.{comma, line_feed, digit, decimal, hex_digit, hex_byte, hex};
 ghost use Rattle.text.specs.Puts.{Puts};

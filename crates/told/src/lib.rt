@@ -1,4 +1,6 @@
 // The parameter data of PERSISTENT RESERVE IN, put together in a page that grows at its end.
+#![tactic(auto)]
+
 ghost use Rattle.std.specs.Prelude.{◌≡◌, [], ◌+◌, ◌≤◌, length};
 ghost use Rattle.rights.specs.Told.{keys, keys_data, reservation_data};
 ghost use Rattle.told.specs.Page.{Shows, Appended, place_key, reservation_body};
@@ -6,7 +8,7 @@ ghost use Rattle.told.specs.Page.{Shows, Appended, place_key, reservation_body};
 use reservations::standing;
 use rights::{Place, REGISTRATION_PLACES, Rights};
 
-#[derive(Drop)]
+#[derive(Clone, Copy)]
 pub struct Page {
     pub bytes: [u8; 72],
     pub len: usize,

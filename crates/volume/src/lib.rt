@@ -1,6 +1,8 @@
 // The volume: the map as a product of its own. Entry points that take any input, test it in one order and say what was wrong.
 // The order: bounds (capacity, slots, medium), the owners, the marks, then for a read or a write too many blocks, the range, the bytes lent,
 // the room.
+#![tactic(auto)]
+
 ghost use Rattle.std.specs.Prelude.{◌≡◌};
 ghost use Rattle.pool.specs.Pool.{pool};
 ghost use Rattle.volume.specs.Volume as Volume;
@@ -8,7 +10,7 @@ ghost use Rattle.volume.specs.Volume as Volume;
 use pool::{BLOCK_BYTES, Checked, Lba, MARK_WORDS, MOST_BLOCKS, MOST_SLOTS, MOST_TRANSFER};
 
 // What an entry point answers.
-#[derive(Drop)]
+#[derive(Clone, Copy)]
 pub enum Mapped {
     Done,
     BadBounds,
@@ -21,7 +23,7 @@ pub enum Mapped {
 }
 
 // The room of a pool: how many slots are free, and the lowest of them or, where none is, how many slots there are. A refusal has 0 and 0.
-#[derive(Drop)]
+#[derive(Clone, Copy)]
 pub struct FreeRoom {
     pub answer: Mapped,
     pub free: usize,

@@ -1,0 +1,26 @@
+-- `reservations::places::apart` meets its contract. Assumes nothing.
+use Rattle.std.proofs.Common.{◌≡◌, sym, refl, ◌∙◌, inl, inr, arith, rules}
+use borrow.Author.Tests.{not-true, not-false}
+use Rattle.reservations.proofs.ChangeLaws.{every_stops, every_goes, every_end}
+use Rattle.reservations.proofs.places.apart.Goals as goal
+
+pub loop-i-init : goal.loop-i-init
+loop-i-init c = (omega arith, refl)
+
+pub loop-i-preserved : goal.loop-i-preserved
+loop-i-preserved c =
+    let a = c.args in
+    let l = c.loop-i in (
+      omega arith,
+      elim c.if-not-sound.branch [
+        | inl k ↦ every_stops a.places l.i l.all l.invariant.1 _ (search rules) (sym c.sound.ensures ∙ not-true _ k.0.taken) k.1
+        | inr k ↦ every_goes a.places l.i l.all l.invariant.1 _ (search rules) (sym c.sound.ensures ∙ not-false _ k.0.left) k.1
+      ],
+    )
+
+pub returns : goal.returns
+returns c =
+    let a = c.args in
+    let l = c.loop-i in
+    let e : l.i ≡ 8 = omega arith in
+    every_end a.places l.i l.all l.invariant.1 (search rules ∙ sym e)

@@ -14,7 +14,7 @@ use Rattle.answers.specs.Sense.{format_ok}
 use Rattle.answers.proofs.OrderLaws.{rows_after}
 use Rattle.pool.specs.Bounds.{mark_words}
 use Rattle.pool.specs.Marks.{marks_of}
-use Rattle.pool.specs.Pool.{Pool, pool, with_owners, write_blocks, unmap_blocks}
+use Rattle.pool.specs.Pool.{Pool, pool, with_owners, write_blocks, unmap_blocks, unmap_owners}
 use Rattle.pool.specs.Valid.{capacity_ok, pool_ok}
 use Rattle.pool.proofs.Marking.{length_marks_of}
 use Rattle.pool.proofs.Keeping.{pool_ok_marks, pool_ok_write_blocks, pool_ok_unmap_blocks, length_assign_blocks, length_put_blocks, length_unmap_owners}
@@ -106,7 +106,7 @@ unmap_all_ok : (capacity : ℕ) (p : Pool) (owners list : List ℕ) (at n : ℕ)
 unfolding unmap_all unmap_blocks
 unmap_all_ok capacity p owners list at zero t = t
 unmap_all_ok capacity p owners list at (suc n) t =
-    unmap_all_ok capacity p _ list (at + 16) n
+    unmap_all_ok capacity p (unmap_owners owners (descriptor_at list at).address.0 (descriptor_at list at).count) list (at + 16) n
     (pool_ok_unmap_blocks capacity (with_owners p owners) (descriptor_at list at).address.0 (descriptor_at list at).count t)
 
 -- the owners that stand there bring the marks that stand there
@@ -117,7 +117,7 @@ unmap_all_length : (owners list : List ℕ) (at n : ℕ) → length (unmap_all o
 unfolding unmap_all
 unmap_all_length owners list at zero = refl
 unmap_all_length owners list at (suc n) =
-    unmap_all_length _ list (at + 16) n ∙ length_unmap_owners owners (descriptor_at list at).address.0 (descriptor_at list at).count
+    unmap_all_length (unmap_owners owners (descriptor_at list at).address.0 (descriptor_at list at).count) list (at + 16) n ∙ length_unmap_owners owners (descriptor_at list at).address.0 (descriptor_at list at).count
 
 moved_ok : (m : Move) (q : Request) (capacity : ℕ) (p : Pool) (c : Call) → T (pool_ok capacity p) → first (move_rows m q capacity p c) ≡ Good
     → T (pool_ok capacity (moved m q p c))

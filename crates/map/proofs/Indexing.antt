@@ -1,6 +1,6 @@
 -- Laws of the index: how one slot more, or one slot filled, changes the places of a range.
 -- Assumes nothing.
-use Rattle.std.proofs.Common.{◌≡◌, ℕ, zero, suc, ◌+◌, ◌-◌, ◌<◌, ◌≤◌, cond, not, T, eqb, ◌≢◌, List, [], ◌∷◌, map, length, get_or, take, drop, set, replicate, sym, refl, ap, ◌∙◌, add-zero, add-one, arith, drop_of_length-le, drop-cons, get_or-take, eq-eqb, ne_eqb}
+use Rattle.std.proofs.Common.{◌≡◌, ℕ, zero, suc, ◌+◌, ◌-◌, ◌<◌, ◌≤◌, cond, not, T, eqb, ◌≢◌, List, [], ◌∷◌, map, length, get_or, take, drop, set, replicate, sym, refl, ap, subst, ◌∙◌, add-zero, add-one, arith, drop_of_length-le, drop-cons, get_or-take, eq-eqb, ne_eqb}
 use lib.Seq.{drop-length, take-set-lt}
 use Rattle.fields.proofs.Tests.{test, T_true, T_false}
 use Rattle.pool.specs.Bounds.{most_transfer}
@@ -67,8 +67,9 @@ from_in i ys a (suc n) (suc k) h =
     let d : suc (a + suc k) ≢ suc a = λ e. omega arith in
     let e : i + suc (place (suc a) ys) ≡ suc i + place (suc a) ys = omega arith in
     let s : a + suc k ≡ suc a + k = omega arith in
-    rw (ne_eqb (suc (a + suc k)) (suc a) d, e, s)
-    (ap (λ (l : List ℕ). (suc i + place (suc a) ys) ∷ l) (from_in i ys (suc a) n k (omega arith)))
+    rw (ne_eqb (suc (a + suc k)) (suc a) d, e)
+    (ap (λ (l : List ℕ). (suc i + place (suc a) ys) ∷ l)
+    (subst (λ (x : ℕ). map (λ (p : ℕ). i + p) (places (suc x ∷ ys) (suc a) n) ≡ set (map (λ (p : ℕ). suc i + p) (places ys (suc a) n)) k i) (sym s) (from_in i ys (suc a) n k (omega arith))))
 
 -- a turn of the pass over the slots, from i down
 module _ (o index : List ℕ) (i a n : ℕ) (h : 0 < i) (b : i ≤ length o)
@@ -147,11 +148,13 @@ places_fill o a zero k h t = absurd (omega arith)
 places_fill o a (suc n) zero h t =
     let e : a + 0 ≡ a = add-zero a in
     let u : T (not (has (suc a) o)) = rw e at t in
-    rw (e, place_fill (suc a) o u) (ap (λ (l : List ℕ). place 0 o ∷ l) (places_fill_other o a (suc a) n (omega arith)))
+    subst (λ (x : ℕ). places (fill (suc x) o) a (suc n) ≡ set (places o a (suc n)) 0 (place 0 o)) (sym e)
+    (rw (place_fill (suc a) o u) (ap (λ (l : List ℕ). place 0 o ∷ l) (places_fill_other o a (suc a) n (omega arith))))
 places_fill o a (suc n) (suc k) h t =
     let e : a + suc k ≡ suc a + k = omega arith in
     let d : suc a ≢ suc (suc a + k) = λ q. omega arith in
     let z : suc a ≢ 0 = λ q. omega arith in
     let u : T (not (has (suc (suc a + k)) o)) = rw e at t in
-    rw (e, place_fill_other (suc (suc a + k)) (suc a) o d z)
-    (ap (λ (l : List ℕ). place (suc a) o ∷ l) (places_fill o (suc a) n k (omega arith) u))
+    subst (λ (x : ℕ). places (fill (suc x) o) a (suc n) ≡ set (places o a (suc n)) (suc k) (place 0 o)) (sym e)
+    (rw (place_fill_other (suc (suc a + k)) (suc a) o d z)
+    (ap (λ (l : List ℕ). place (suc a) o ∷ l) (places_fill o (suc a) n k (omega arith) u)))

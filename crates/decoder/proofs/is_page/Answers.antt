@@ -18,4 +18,4 @@ returns-in-178 c = simp c.in-178.is
 
 pub returns-in_default : goal.returns-in_default
 unfolding pages is_one_of
-returns-in_default c = simp (ne_eqb _ 0x00 c.in_default.rest.0.0.1, ne_eqb _ 0xB0 c.in_default.rest.0.1, ne_eqb _ 0xB2 c.in_default.rest.1)
+returns-in_default c = let r = c.in_default.in_default-own.rest in simp (ne_eqb _ 0x00 r.0.0.1, ne_eqb _ 0xB0 r.0.1, ne_eqb _ 0xB2 r.1)

@@ -29,4 +29,4 @@ returns-in-8 c = simp c.in-8.is
 
 pub returns-in_default : goal.returns-in_default
 unfolding is_type is_one_of
-returns-in_default c = simp (ne_eqb _ 1 c.in_default.rest.0.0.0.0.0.1, ne_eqb _ 3 c.in_default.rest.0.0.0.0.1, ne_eqb _ 5 c.in_default.rest.0.0.0.1, ne_eqb _ 6 c.in_default.rest.0.0.1, ne_eqb _ 7 c.in_default.rest.0.1, ne_eqb _ 8 c.in_default.rest.1)
+returns-in_default c = let r = c.in_default.in_default-own.rest in simp (ne_eqb _ 1 r.0.0.0.0.0.1, ne_eqb _ 3 r.0.0.0.0.1, ne_eqb _ 5 r.0.0.0.1, ne_eqb _ 6 r.0.0.1, ne_eqb _ 7 r.0.1, ne_eqb _ 8 r.1)

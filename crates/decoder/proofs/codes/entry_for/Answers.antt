@@ -52,8 +52,8 @@ returns-in-158 c = simp (c.service_in.ensures, c.in-158.is)
 
 pub returns-in-1-to-17 : goal.returns-in-1-to-17
 unfolding entry_for lines lists
-returns-in-1-to-17 c = sym (lookup_skips _ _ _ _ (elim c.in-1-to-17.keys13 [ inl e ↦ simp e | inr e ↦ simp e ]))
+returns-in-1-to-17 c = sym (lookup_skips _ _ _ _ (elim c.in-1-to-17.in-1-to-17-own.keys13 [ inl e ↦ simp e | inr e ↦ simp e ]))
 
 pub returns-in-1-to-17-2 : goal.returns-in-1-to-17-2
 unfolding entry_for lines lists
-returns-in-1-to-17-2 c = sym (lookup_skips _ _ _ _ (let r = c.in-1-to-17 in simp (ne_eqb _ 0 r.rest.0.0.0.0.0.0.0.0.0.0.0.0.1, ne_eqb _ 18 r.rest.0.0.0.0.0.0.0.0.0.0.0.1, ne_eqb _ 37 r.rest.0.0.0.0.0.0.0.0.0.0.1, ne_eqb _ 40 r.rest.0.0.0.0.0.0.0.0.0.1, ne_eqb _ 42 r.rest.0.0.0.0.0.0.0.0.1, ne_eqb _ 66 r.rest.0.0.0.0.0.0.0.1, ne_eqb _ 94 r.rest.0.0.0.0.0.0.1, ne_eqb _ 95 r.rest.0.0.0.0.0.1, ne_eqb _ 136 r.rest.0.0.0.0.1, ne_eqb _ 138 r.rest.0.0.0.1, ne_eqb _ 147 r.rest.0.0.1, ne_eqb _ 158 r.rest.0.1)))
+returns-in-1-to-17-2 c = sym (lookup_skips _ _ _ _ (let r = c.in-1-to-17.in-1-to-17-own.rest in simp (ne_eqb _ 0 r.0.0.0.0.0.0.0.0.0.0.0.0.1, ne_eqb _ 18 r.0.0.0.0.0.0.0.0.0.0.0.1, ne_eqb _ 37 r.0.0.0.0.0.0.0.0.0.0.1, ne_eqb _ 40 r.0.0.0.0.0.0.0.0.0.1, ne_eqb _ 42 r.0.0.0.0.0.0.0.0.1, ne_eqb _ 66 r.0.0.0.0.0.0.0.1, ne_eqb _ 94 r.0.0.0.0.0.0.1, ne_eqb _ 95 r.0.0.0.0.0.1, ne_eqb _ 136 r.0.0.0.0.1, ne_eqb _ 138 r.0.0.0.1, ne_eqb _ 147 r.0.0.1, ne_eqb _ 158 r.0.1)))

@@ -15,4 +15,4 @@ returns-in-1 c = simp (c.plain-in-1.ensures, c.in-1.is)
 
 pub returns-in-2-to-255 : goal.returns-in-2-to-255
 unfolding entry_for lines takes taken passed
-returns-in-2-to-255 c = c.other.ensures ∙ sym (lookup_passes 0x5E _ _ _ (simp (ne_eqb _ 0 c.in-2-to-255.rest.0.1, ne_eqb _ 1 c.in-2-to-255.rest.1)))
+returns-in-2-to-255 c = let r = c.in-2-to-255.in-2-to-255-own.rest in c.other.ensures ∙ sym (lookup_passes 0x5E _ _ _ (simp (ne_eqb _ 0 r.0.1, ne_eqb _ 1 r.1)))

@@ -5,6 +5,7 @@ use borrow.Author.Tests.{ne_eqb}
 use Rattle.forms.proofs.Table.{lookup_passes, taken, passed}
 use Rattle.forms.specs.Forms.{entry_for, lookup, lines, takes}
 use Rattle.decoder.proofs.codes.reserve_out.Goals as goal
+use Rattle.decoder.proofs.codes.reserve_out.Goals.{in-5-1, in_default-1}
 
 pub returns-in-0 : goal.returns-in-0
 unfolding entry_for lookup lines takes
@@ -12,7 +13,7 @@ returns-in-0 c = simp (c.plain.ensures, c.in-0.is)
 
 pub returns-in-1 : goal.returns-in-1
 unfolding entry_for lookup lines takes
-returns-in-1 c = simp (c.type_inv.ensures, c.in-1.is)
+returns-in-1 c = simp (c.typed.ensures, c.in-1.is)
 
 pub returns-in-2 : goal.returns-in-2
 unfolding entry_for lookup lines takes
@@ -32,4 +33,4 @@ returns-in-6 c = simp (c.plain-in-6.ensures, c.in-6.is)
 
 pub returns-in-5 : goal.returns-in-5
 unfolding entry_for lines takes taken passed
-returns-in-5 c = c.other.ensures ∙ sym (lookup_passes 0x5F _ _ _ (elim c.in-5-1.branch [ inl k ↦ simp k.keys7 | inr r ↦ simp (ne_eqb _ 0 r.rest.0.0.0.0.0.0.1, ne_eqb _ 1 r.rest.0.0.0.0.0.1, ne_eqb _ 2 r.rest.0.0.0.0.1, ne_eqb _ 3 r.rest.0.0.0.1, ne_eqb _ 4 r.rest.0.0.1, ne_eqb _ 6 r.rest.0.1) ]))
+returns-in-5 c = c.other.ensures ∙ sym (lookup_passes 0x5F _ _ _ (elim c.in-5-1.branch [ in-5-1 k ↦ simp k.in-5-1.keys7 | in_default-1 w ↦ let r = w.in_default-1.rest in simp (ne_eqb _ 0 r.0.0.0.0.0.0.1, ne_eqb _ 1 r.0.0.0.0.0.1, ne_eqb _ 2 r.0.0.0.0.1, ne_eqb _ 3 r.0.0.0.1, ne_eqb _ 4 r.0.0.1, ne_eqb _ 6 r.0.1) ]))

@@ -6,7 +6,7 @@ use Rattle.actions.proofs.ActionCases.{ignoring_flags, ignoring_enters}
 use Rattle.actions.proofs.register_ignoring.Goals as goal
 
 pub returns-in_default : goal.returns-in_default
-returns-in_default c = sym (ignoring_flags _ _ _ _ c.flag_refusal-refusal.ensures (tag_refuses _ c.in_default.keys2))
+returns-in_default c = sym (ignoring_flags _ _ _ _ c.flag_refusal-refusal.ensures (tag_refuses _ c.in_default.in_default-own.keys2))
 
 pub returns : goal.returns
 returns c = c.enter.ensures ∙ sym (ignoring_enters _ _ _ (sym c.flag_refusal-refusal.ensures ∙ c.in-Good.is))

@@ -7,8 +7,8 @@ use Rattle.actions.proofs.stranger.Goals as goal
 
 pub returns-then-not-has : goal.returns-then-not-has
 unfolding stranger
-returns-then-not-has c = simp (sym c.has.ensures ∙ not-true _ c.if-not-has.true)
+returns-then-not-has c = simp (sym c.has.ensures ∙ c.if-not-has.true)
 
 pub returns : goal.returns
 unfolding stranger
-returns c = simp (sym c.has.ensures ∙ not-false _ c.if-not-has.false, c.key_of.ensures)
+returns c = simp (sym c.has.ensures ∙ c.if-not-has.false, c.key_of.ensures)

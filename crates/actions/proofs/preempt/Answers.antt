@@ -1,7 +1,7 @@
 -- `actions::preempt` meets its contract.
 -- Assumes nothing.
 use mathlib.Core.Path.{sym, ◌∙◌}
-use borrow.Author.Tests.{eq-eqb, ne_eqb, not-true, not-false}
+use borrow.Author.Tests.{eq-eqb, ne_eqb}
 use Rattle.actions.proofs.ActionCases.{preempt_stranger, preempt_zero, preempt_unknown, preempt_done}
 use Rattle.actions.proofs.preempt.Goals as goal
 

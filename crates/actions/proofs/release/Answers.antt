@@ -1,7 +1,7 @@
 -- `actions::release` meets its contract.
 -- Assumes nothing.
 use mathlib.Core.Path.{sym, ◌∙◌}
-use borrow.Author.Tests.{eq-eqb, ne_eqb, not-true, not-false}
+use borrow.Author.Tests.{eq-eqb, ne_eqb}
 use Rattle.actions.proofs.ActionCases.{release_stranger, release_other, release_done, release_type}
 use Rattle.actions.proofs.release.Goals as goal
 

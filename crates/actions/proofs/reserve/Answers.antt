@@ -1,7 +1,7 @@
 -- `actions::reserve` meets its contract.
 -- Assumes nothing.
 use mathlib.Core.Path.{sym, ◌∙◌}
-use borrow.Author.Tests.{eq-eqb, ne_eqb, not-true, not-false}
+use borrow.Author.Tests.{eq-eqb, ne_eqb}
 use Rattle.actions.proofs.ActionCases.{reserve_stranger, reserve_made, reserve_other, reserve_again, reserve_type}
 use Rattle.actions.proofs.reserve.Goals as goal
 

@@ -1,7 +1,6 @@
 -- `actions::stranger` meets its contract.
 -- Assumes nothing.
 use mathlib.Core.Path.{sym, ◌∙◌}
-use borrow.Author.Tests.{not-true, not-false}
 use Rattle.rights.specs.Actions.{stranger}
 use Rattle.actions.proofs.stranger.Goals as goal
 

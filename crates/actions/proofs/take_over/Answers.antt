@@ -1,7 +1,6 @@
 -- `actions::take_over` meets its contract.
 -- Assumes nothing.
 use mathlib.Core.Path.{sym, ◌∙◌}
-use borrow.Author.Tests.{not-true, not-false}
 use Rattle.fields.specs.Bits.{first_byte, top_bit, bit_count}
 use Rattle.answers.specs.Order.{first_of, if_good_by, refuses}
 use Rattle.rights.specs.Actions.{taking_over}

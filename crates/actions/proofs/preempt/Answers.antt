@@ -1,7 +1,7 @@
 -- `actions::preempt` meets its contract.
 -- Assumes nothing.
 use mathlib.Core.Path.{sym, ◌∙◌}
-use borrow.Author.Tests.{eq-eqb, ne_eqb, not-true, not-false}
+use borrow.Author.Tests.{eq-eqb, ne_eqb}
 use Rattle.actions.proofs.ActionCases.{preempt_stranger, preempt_zero, preempt_unknown, preempt_done}
 use Rattle.actions.proofs.preempt.Goals as goal
 
@@ -12,7 +12,7 @@ pub returns-then-parameters-eq0 : goal.returns-then-parameters-eq0
 returns-then-parameters-eq0 c = c.take_over.ensures ∙ sym (preempt_zero _ _ _ (sym c.stranger.ensures ∙ c.if-stranger.false) (eq-eqb _ _ c.if-parameters-eq0.true))
 
 pub returns-then-not-has : goal.returns-then-not-has
-returns-then-not-has c = sym (preempt_unknown _ _ _ (sym c.stranger.ensures ∙ c.if-stranger.false) (ne_eqb _ _ c.if-parameters-eq0.false) (sym c.has.ensures ∙ not-true _ c.if-not-has.true))
+returns-then-not-has c = sym (preempt_unknown _ _ _ (sym c.stranger.ensures ∙ c.if-stranger.false) (ne_eqb _ _ c.if-parameters-eq0.false) (sym c.has.ensures ∙ c.if-not-has.true))
 
 pub returns : goal.returns
-returns c = simp (preempt_done _ _ _ (sym c.stranger.ensures ∙ c.if-stranger.false) (ne_eqb _ _ c.if-parameters-eq0.false) (sym c.has.ensures ∙ not-false _ c.if-not-has.false), c.preempting-after.ensures)
+returns c = simp (preempt_done _ _ _ (sym c.stranger.ensures ∙ c.if-stranger.false) (ne_eqb _ _ c.if-parameters-eq0.false) (sym c.has.ensures ∙ c.if-not-has.false), c.preempting-after.ensures)

@@ -13,8 +13,8 @@ returns-in-2 c = rw c.in-2.is
 
 pub returns-in-0 : goal.returns-in-0
 unfolding refusal_of
-returns-in-0 c = rw c.in-0.keys3
+returns-in-0 c = rw c.in-0.in-0-own.keys3
 
 pub returns-in-0-2 : goal.returns-in-0-2
 unfolding refusal_of
-returns-in-0-2 c = simp (ne_eqb _ 1 c.in-0.rest.0.0.1, ne_eqb _ 2 c.in-0.rest.0.1)
+returns-in-0-2 c = simp (ne_eqb _ 1 c.in-0.in-0-own.rest.0.0.1, ne_eqb _ 2 c.in-0.in-0-own.rest.0.1)

@@ -1,6 +1,5 @@
 -- `attentions::valid` meets its contract. Assumes nothing.
 use mathlib.Core.Path.{◌≡◌, refl, sym, ◌∙◌}
-use mathlib.Core.Logic.{inl, inr}
 use native.Mathlib.Omega.{arith}
 use lib.ListN.{length}
 use borrow.Author.Tests.{lt-leb, le-leb}
@@ -18,8 +17,8 @@ loop-i-preserved c =
     let l = c.loop-i in (
       omega arith,
       elim c.if-attentions-i-gt-RESERVATIONS_RELEASED.branch [
-        | inl k ↦ every_stops a.t1 l.i l.all l.invariant.1 _ (search rules) (lt-leb _ 3 k.0.taken) k.1
-        | inr k ↦ every_goes a.t1 l.i l.all l.invariant.1 _ (search rules) (le-leb _ 3 k.0.left) k.1
+        | goal.then-attentions-i-gt-RESERVATIONS_RELEASED w ↦ every_stops a.attentions l.i l.all l.invariant.1 _ (search rules) (lt-leb _ 3 w.if-attentions-i-gt-RESERVATIONS_RELEASED.true) w.all-is
+        | goal.else-attentions-i-gt-RESERVATIONS_RELEASED w ↦ every_goes a.attentions l.i l.all l.invariant.1 _ (search rules) (le-leb _ 3 w.if-attentions-i-gt-RESERVATIONS_RELEASED.false) w.all-is
       ],
     )
 
@@ -29,5 +28,5 @@ returns c =
     let a = c.args in
     let l = c.loop-i in
     let e : l.i ≡ 16 = omega arith in
-    let n : length a.t1 ≡ 16 = search rules in
-    every_end a.t1 l.i l.all l.invariant.1 (n ∙ sym e) ∙ rw n
+    let n : length a.attentions ≡ 16 = search rules in
+    every_end a.attentions l.i l.all l.invariant.1 (n ∙ sym e) ∙ rw n

@@ -12,9 +12,9 @@ pub returns-then-nexus-gt-LAST_NEXUS : goal.returns-then-nexus-gt-LAST_NEXUS
 unfolding waiting_for
 returns-then-nexus-gt-LAST_NEXUS c =
     let a = c.args in
-    let n : length a.t1 ≡ 16 = search rules in
-    let h : length a.t1 ≤ a.nexus = omega (arith, c.if-nexus-gt-LAST_NEXUS.true) in
-    rw (beyond a.t1 a.nexus 0 h)
+    let n : length a.attentions ≡ 16 = search rules in
+    let h : length a.attentions ≤ a.nexus = omega (arith, c.if-nexus-gt-LAST_NEXUS.true) in
+    rw (beyond a.attentions a.nexus 0 h)
 
 pub returns : goal.returns
 unfolding waiting_for

@@ -1,11 +1,11 @@
 -- `sound`: no slot passed is beyond the capacity, no two name the same block, each is in the chain of its bucket, and the marks are those
 -- of the slots passed. Assumes nothing.
 use mathlib.Core.Path.{◌∙◌, sym}
-use mathlib.Core.Logic.{⊎_elim}
 use Rattle.audit.proofs.Chains.{bucket_below, passed_none, passed_free, passed_beyond, passed_chain, passed_named, passed_new, passed_all}
 use Rattle.audit.proofs.Words.{made_none, made_free, made_used, made_all, made_passed, agreed_none, agreed_more, agreed_all, agreed_not, other_words, both_right, map_wrong, marks_wrong}
 use borrow.Author.Rules.{rules}
 use Rattle.audit.proofs.sound.Goals as goal
+use Rattle.audit.proofs.sound.Goals.{then-x-ne0+else-x-capacity+else-named_before, else-x-ne0}
 
 pub returns-then-marks-ne-MARK_WORDS : goal.returns-then-marks-ne-MARK_WORDS
 returns-then-marks-ne-MARK_WORDS c = marks_wrong _ _ _ (other_words _ _ c.if-marks-ne-MARK_WORDS.true)
@@ -36,13 +36,13 @@ loop-i-preserved c =
     let p = c.loop-i.invariant in
     let ends = c.end_of-end.ensures in
     let below = c.loop-i-test.true in
-    ⊎_elim
-    (λ w. rw (w.7, w.8, w.9) (
-      passed_new p.0 (search rules) w.0.taken w.2.ensures c.requires w.1.left (rw w.4.ensures at w.5.left),
-      rw w.6.ensures (made_used p.1 ends below w.0.taken),
-    ))
-    (λ w. rw (w.1, w.2, w.3) (passed_free p.0 w.0.left, made_free p.1 ends below w.0.left))
-    c.if-x-ne0.branch
+    elim c.if-x-ne0.branch [
+      | then-x-ne0+else-x-capacity+else-named_before w ↦ rw (w.last-is, w.earlier-is, w.made-is) (
+        passed_new p.0 (search rules) w.if-x-ne0.true w.bucket_of-bucket.ensures c.requires w.if-x-capacity.false (rw w.named_before.ensures at w.if-named_before.false),
+        rw w.with_bit-made.ensures (made_used p.1 ends below w.if-x-ne0.true),
+      )
+      | else-x-ne0 w ↦ rw (w.last-is, w.earlier-is, w.made-is) (passed_free p.0 w.if-x-ne0.false, made_free p.1 ends below w.if-x-ne0.false)
+    ]
 
 pub returns-then-made-marks : goal.returns-then-made-marks
 returns-then-made-marks c =

@@ -10,21 +10,21 @@ use Rattle.told.proofs.PageLaws.{key_length, keys_more, keys_none, shows_more, k
 use Rattle.told.proofs.keys.Goals as goal
 
 pub loop-i-init : goal.loop-i-init
-loop-i-init c = (omega arith, (omega (arith, c.empty-page.ensures.len), keys_none _ c.args.t1 c.empty-page.ensures))
+loop-i-init c = (omega arith, (omega (arith, c.empty-page.ensures.len), keys_none _ c.args.places c.empty-page.ensures))
 
 pub loop-i-preserved : goal.loop-i-preserved
 loop-i-preserved c =
     let a = c.args in
     let l = c.loop-i in
-    let n : length a.t1 ≡ 8 = search rules in
-    let h = key_length (get_or a.t1 l.i unused) in
+    let n : length a.places ≡ 8 = search rules in
+    let h = key_length (get_or a.places l.i unused) in
     let e = c.append_key-page.ensures in
-    (omega arith, (omega (arith, e.len), rw (keys_more a.t1 l.i unused (omega arith)) (shows_more _ _ _ _ l.invariant.1.1 e)))
+    (omega arith, (omega (arith, e.len), rw (keys_more a.places l.i unused (omega arith)) (shows_more _ _ _ _ l.invariant.1.1 e)))
 
 pub returns : goal.returns
 returns c =
     let a = c.args in
     let l = c.loop-i in
     let e : l.i ≡ 8 = omega arith in
-    let k : keys (take l.i a.t1) ≡ keys a.t1 = rw e (keys_all a.t1 8 (search rules)) in
+    let k : keys (take l.i a.places) ≡ keys a.places = rw e (keys_all a.places 8 (search rules)) in
     (omega arith, rw k at l.invariant.1.1)

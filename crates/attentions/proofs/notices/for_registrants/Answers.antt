@@ -24,4 +24,4 @@ pub returns-in-0-to-4 : goal.returns-in-0-to-4
 unfolding for_registrants is_one_of
 returns-in-0-to-4 c =
     simp
-    (ne_eqb _ 5 c.in-0-to-4.rest.0.0.0.1, ne_eqb _ 6 c.in-0-to-4.rest.0.0.1, ne_eqb _ 7 c.in-0-to-4.rest.0.1, ne_eqb _ 8 c.in-0-to-4.rest.1)
+    (ne_eqb _ 5 c.in-0-to-4.in-0-to-4-own.rest.0.0.0.1, ne_eqb _ 6 c.in-0-to-4.in-0-to-4-own.rest.0.0.1, ne_eqb _ 7 c.in-0-to-4.in-0-to-4-own.rest.0.1, ne_eqb _ 8 c.in-0-to-4.in-0-to-4-own.rest.1)

@@ -1,5 +1,6 @@
 -- What the code learns where an answer is not the first of its cases: it refuses.
 -- Assumes nothing.
+use Rattle.std.proofs.Common.{◌≢◌, refl}
 use mathlib.Core.Logic.{inl, inr}
 use mathlib.Core.List.{[], ◌∷◌}
 use native.Mathlib.Omega.{arith}
@@ -21,3 +22,11 @@ tag_refuses (Refused s) k = tt
 tag_refuses Conflict k = tt
 tag_refuses Unusable k = tt
 tag_refuses Short k = tt
+
+pub refuses_but_good : (a : Answer) → a ≢ Good → T (refuses a)
+unfolding refuses
+refuses_but_good Good k = absurd (k refl)
+refuses_but_good (Refused s) k = tt
+refuses_but_good Conflict k = tt
+refuses_but_good Unusable k = tt
+refuses_but_good Short k = tt

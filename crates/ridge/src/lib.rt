@@ -15,8 +15,7 @@ use store::Unit;
 mod by_value;
 
 // Makes a fresh store: its unit, its owners and its marks, and whether its format is one. The answer is document 01's number.
-#[unsafe(no_mangle)]
-pub extern "C" fn ridge_fresh(
+pub fn ridge_fresh(
     capacity: u64,
     format: u64,
     unit: &mut Unit,
@@ -34,8 +33,7 @@ pub extern "C" fn ridge_fresh(
 }
 
 // Runs one command on a store of a format. The answer is document 01's number; `returned` is how many bytes of data-in were written.
-#[unsafe(no_mangle)]
-pub extern "C" fn ridge_execute(
+pub fn ridge_execute(
     format: u64,
     unit: &mut Unit,
     owners: &mut [u64],
@@ -64,8 +62,7 @@ pub extern "C" fn ridge_execute(
 }
 
 // Tells how many slots of a store are free, and which is the lowest of them. The answer is document 01's number; any but 0 writes neither.
-#[unsafe(no_mangle)]
-pub extern "C" fn ridge_room(
+pub fn ridge_room(
     format: u64,
     unit: &Unit,
     owners: &[u64],

@@ -14,4 +14,4 @@ returns-in-8 c = rw c.in-8.is
 
 pub returns-in-0-to-6 : goal.returns-in-0-to-6
 unfolding all_hold is_one_of
-returns-in-0-to-6 c = simp (ne_eqb _ 7 c.in-0-to-6.rest.0.1, ne_eqb _ 8 c.in-0-to-6.rest.1)
+returns-in-0-to-6 c = simp (ne_eqb _ 7 c.in-0-to-6.in-0-to-6-own.rest.0.1, ne_eqb _ 8 c.in-0-to-6.in-0-to-6-own.rest.1)

@@ -22,8 +22,8 @@ returns-in-6 c = rw c.in-6.is
 
 pub returns-in-0 : goal.returns-in-0
 unfolding one_holds is_one_of
-returns-in-0 c = ⊎_elim (λ e. rw e) (⊎_elim (λ e. rw e) (λ e. rw e)) c.in-0.keys5
+returns-in-0 c = ⊎_elim (λ e. rw e) (⊎_elim (λ e. rw e) (λ e. rw e)) c.in-0.in-0-own.keys5
 
 pub returns-in-0-2 : goal.returns-in-0-2
 unfolding one_holds is_one_of
-returns-in-0-2 c = simp (ne_eqb _ 1 c.in-0.rest.0.0.0.0.1, ne_eqb _ 3 c.in-0.rest.0.0.0.1, ne_eqb _ 5 c.in-0.rest.0.0.1, ne_eqb _ 6 c.in-0.rest.0.1)
+returns-in-0-2 c = simp (ne_eqb _ 1 c.in-0.in-0-own.rest.0.0.0.0.1, ne_eqb _ 3 c.in-0.in-0-own.rest.0.0.0.1, ne_eqb _ 5 c.in-0.in-0-own.rest.0.0.1, ne_eqb _ 6 c.in-0.in-0-own.rest.0.1)

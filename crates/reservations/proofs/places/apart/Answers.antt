@@ -1,6 +1,5 @@
 -- `reservations::places::apart` meets its contract. Assumes nothing.
-use Rattle.std.proofs.Common.{◌≡◌, sym, refl, ◌∙◌, inl, inr, arith, rules}
-use borrow.Author.Tests.{not-true, not-false}
+use Rattle.std.proofs.Common.{◌≡◌, sym, refl, ◌∙◌, arith, rules}
 use Rattle.reservations.proofs.ChangeLaws.{every_stops, every_goes, every_end}
 use Rattle.reservations.proofs.places.apart.Goals as goal
 
@@ -13,8 +12,8 @@ loop-i-preserved c =
     let l = c.loop-i in (
       omega arith,
       elim c.if-not-sound.branch [
-        | inl k ↦ every_stops a.places l.i l.all l.invariant.1 _ (search rules) (sym c.sound.ensures ∙ not-true _ k.0.taken) k.1
-        | inr k ↦ every_goes a.places l.i l.all l.invariant.1 _ (search rules) (sym c.sound.ensures ∙ not-false _ k.0.left) k.1
+        | goal.then-not-sound w ↦ every_stops a.places l.i l.all l.invariant.1 _ (search rules) (sym c.sound.ensures ∙ w.if-not-sound.true) w.all-is
+        | goal.else-not-sound w ↦ every_goes a.places l.i l.all l.invariant.1 _ (search rules) (sym c.sound.ensures ∙ w.if-not-sound.false) w.all-is
       ],
     )
 

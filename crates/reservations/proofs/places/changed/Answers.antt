@@ -2,14 +2,13 @@
 -- Assumes nothing.
 use mathlib.Core.Bool.{and-false}
 use Rattle.std.proofs.Common.{sym, ◌∙◌, eq-eqb, ne_eqb}
-use borrow.Author.Tests.{not-true, not-false}
 use Rattle.rights.specs.Places.{rekeyed, without, spares, alone}
 use Rattle.reservations.specs.Search.{wants}
 use Rattle.reservations.proofs.places.changed.Goals as goal
 
 pub returns-then-not-wanted : goal.returns-then-not-wanted
 unfolding rekeyed wants
-returns-then-not-wanted c = simp (c.in-Rekey.is, sym c.wanted.ensures ∙ not-true _ c.if-not-wanted.true)
+returns-then-not-wanted c = simp (c.in-Rekey.is, sym c.wanted.ensures ∙ c.if-not-wanted.true)
 
 pub returns-then-place-nexus : goal.returns-then-place-nexus
 unfolding without spares
@@ -17,11 +16,11 @@ returns-then-place-nexus c = simp (c.in-RemoveBut.is, eq-eqb _ _ c.if-place-nexu
 
 pub returns-then-key-eq0 : goal.returns-then-key-eq0
 unfolding rekeyed wants
-returns-then-key-eq0 c = simp (c.in-Rekey.is, sym c.wanted.ensures ∙ not-false _ c.if-not-wanted.false, eq-eqb _ _ c.if-key-eq0.true)
+returns-then-key-eq0 c = simp (c.in-Rekey.is, sym c.wanted.ensures ∙ c.if-not-wanted.false, eq-eqb _ _ c.if-key-eq0.true)
 
 pub returns-else-key-eq0 : goal.returns-else-key-eq0
 unfolding rekeyed wants
-returns-else-key-eq0 c = simp (c.in-Rekey.is, c.with_key.ensures, sym c.wanted.ensures ∙ not-false _ c.if-not-wanted.false, ne_eqb _ _ c.if-key-eq0.false)
+returns-else-key-eq0 c = simp (c.in-Rekey.is, c.with_key.ensures, sym c.wanted.ensures ∙ c.if-not-wanted.false, ne_eqb _ _ c.if-key-eq0.false)
 
 pub returns-then-place-key : goal.returns-then-place-key
 unfolding without spares

@@ -13,5 +13,5 @@ returns-then-i-lt-REGISTRATION_PLACES c = simp (key_found, c.seek-i.ensures)
 pub returns-else-i-lt-REGISTRATION_PLACES : goal.returns-else-i-lt-REGISTRATION_PLACES
 returns-else-i-lt-REGISTRATION_PLACES c =
     let a = c.args in
-    let n : length a.t1 ≡ 8 = search rules in
-    sym (key_found a.nexus a.t1 ∙ rw (sym c.seek-i.ensures) (ap (λ (p : Place). p.key) (get_or-eq_default a.t1 unused (omega (arith, c.if-i-lt-REGISTRATION_PLACES.false)))))
+    let n : length a.places ≡ 8 = search rules in
+    sym (key_found a.nexus a.places ∙ rw (sym c.seek-i.ensures) (ap (λ (p : Place). p.key) (get_or-eq_default a.places unused (omega (arith, c.if-i-lt-REGISTRATION_PLACES.false)))))

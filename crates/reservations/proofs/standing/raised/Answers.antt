@@ -5,4 +5,4 @@ use Rattle.reservations.proofs.standing.raised.Goals as goal
 
 pub returns : goal.returns
 unfolding raised
-returns c = simp (c.with_generation.ensures, c.wrapping_add_u32.ensures)
+returns c = simp (c.with_generation.ensures, c.wrapping_add_u32.ensures.value)

@@ -1,0 +1,32 @@
+-- `attentions::valid` meets its contract. Assumes nothing.
+use mathlib.Core.Path.{◌≡◌, refl, sym, ◌∙◌}
+use native.Mathlib.Omega.{arith}
+use lib.ListN.{length}
+use borrow.Author.Tests.{lt-leb, le-leb}
+use borrow.Author.Rules.{rules}
+use Rattle.rights.specs.Attentions.{attentions_ok}
+use Rattle.attentions.proofs.SendingLaws.{every_stops, every_goes, every_end}
+use Rattle.attentions.proofs.valid.Goals as goal
+
+pub loop-i-init : goal.loop-i-init
+loop-i-init c = (omega arith, refl)
+
+pub loop-i-preserved : goal.loop-i-preserved
+loop-i-preserved c =
+    let a = c.args in
+    let l = c.loop-i in (
+      omega arith,
+      elim c.if-attentions-i-gt-RESERVATIONS_RELEASED.branch [
+        | goal.then-attentions-i-gt-RESERVATIONS_RELEASED w ↦ every_stops a.attentions l.i l.all l.invariant.1 _ (search rules) (lt-leb _ 3 w.if-attentions-i-gt-RESERVATIONS_RELEASED.true) w.all-is
+        | goal.else-attentions-i-gt-RESERVATIONS_RELEASED w ↦ every_goes a.attentions l.i l.all l.invariant.1 _ (search rules) (le-leb _ 3 w.if-attentions-i-gt-RESERVATIONS_RELEASED.false) w.all-is
+      ],
+    )
+
+pub returns : goal.returns
+unfolding attentions_ok
+returns c =
+    let a = c.args in
+    let l = c.loop-i in
+    let e : l.i ≡ 16 = omega arith in
+    let n : length a.attentions ≡ 16 = search rules in
+    every_end a.attentions l.i l.all l.invariant.1 (n ∙ sym e) ∙ rw n

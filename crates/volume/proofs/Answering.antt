@@ -8,8 +8,6 @@ use Prim.Native.Nat.{ℕ, ◌+◌, ◌-◌, ◌*◌, ◌<◌, ◌≤◌}
 use native.Mathlib.Omega.{arith}
 use lib.Dec.{T, eqb, leb, ltb}
 use lib.ListN.{length}
-use types.Run.{OneOf, miss}
-use denote.Enum.Declared.{tag_of}
 use borrow.Author.Tests.{eq-eqb, ne_eqb, le-leb, lt-leb, lt-ltb, le-ltb, leb-true, ltb-false, eqb-true, not-false}
 use Rattle.fields.specs.Bytes.{put, zeros}
 use Rattle.fields.proofs.Tests.{nand_rest, true→T, false→T, test, T_true, T_false}
@@ -30,20 +28,19 @@ use Rattle.map.proofs.Trying.{tried, after}
 use Rattle.volume.specs.Volume.{refuses, first, next, if_done, wrong, bounds, sound, usable, transfer, read, read_answer, read_of, Wrote, wrote, write_answer, write_of, left, left_of, unmap_answer, unmap_of, fresh_answer, fresh_of, room_of, RightOwners, WrongMarks}
 use Rattle.volume.specs.declared.Mapped.{Mapped}
 use Rattle.volume.specs.declared.Mapped.TheVariants.{Done, BadBounds, Invalid, Mismarked, TooMany, OutOfRange, Short, NoRoom}
-use Rattle.volume.specs.contracts.Mapped as Declared
 
 -- ---- refusals, and rows of this type of answer
 
-pub refused : (r : Mapped) → OneOf (1 ∷ 2 ∷ 3 ∷ 4 ∷ 5 ∷ 6 ∷ 7 ∷ []) (tag_of Declared.the_type r) → T (refuses r)
+pub refused : (r : Mapped) → r ≢ Done → T (refuses r)
 unfolding refuses
-refused Done t = absurd (miss (1 ∷ 2 ∷ 3 ∷ 4 ∷ 5 ∷ 6 ∷ 7 ∷ []) 0 tt t)
-refused BadBounds t = tt
-refused (Invalid c) t = tt
-refused Mismarked t = tt
-refused TooMany t = tt
-refused OutOfRange t = tt
-refused Short t = tt
-refused NoRoom t = tt
+refused Done n = absurd (n refl)
+refused BadBounds n = tt
+refused (Invalid c) n = tt
+refused Mismarked n = tt
+refused TooMany n = tt
+refused OutOfRange n = tt
+refused Short n = tt
+refused NoRoom n = tt
 
 pub one_done : OneGood Done refuses
 unfolding refuses

@@ -3,12 +3,8 @@ use mathlib.Core.Path.{refl}
 use Rattle.fields.specs.Field.{bytes}
 use Rattle.forms.specs.Tests.{pages}
 use Rattle.store.specs.Vital.{vital_page, pages_page}
-use Rattle.tell.proofs.pages.supported.Statement.{statement}
-use Rattle.tell.proofs.pages.supported.Tie as tie
+use Rattle.tell.proofs.pages.supported.Goals as goal
 
-returns : tie.Need-returns
+pub returns : goal.returns
 unfolding pages_page vital_page pages bytes
 returns c = refl
-
-pub supported-spec : {M : Type 1} → statement M
-supported-spec = tie.close (tie.spec returns)

@@ -2,12 +2,8 @@
 use mathlib.Core.Path.{refl}
 use Rattle.fields.specs.Field.{bytes}
 use Rattle.store.specs.Vital.{vital_page, provisioning_page}
-use Rattle.tell.proofs.pages.provisioning.Statement.{statement}
-use Rattle.tell.proofs.pages.provisioning.Tie as tie
+use Rattle.tell.proofs.pages.provisioning.Goals as goal
 
-returns : tie.Need-returns
+pub returns : goal.returns
 unfolding provisioning_page vital_page bytes
 returns c = refl
-
-pub provisioning-spec : {M : Type 1} → statement M
-provisioning-spec = tie.close (tie.spec returns)

@@ -4,11 +4,10 @@ use mathlib.Core.Path.{◌≡◌, refl, sym, ap, ◌∙◌}
 use mathlib.Core.List.{List, []}
 use Prim.Native.Nat.{ℕ, ◌≤◌}
 use lib.Dec.{T}
-use Rattle.fields.specs.Bytes.{put}
 use Rattle.fields.proofs.BytesLaws.{put_none}
 use Rattle.answers.specs.declared.Answer.{Answer}
 use Rattle.answers.specs.declared.Answer.TheVariants.{Good, Refused, Conflict, Unusable, Short}
-use Rattle.answers.specs.Order.{first, if_good, if_good_by, refuses}
+use Rattle.answers.specs.Order.{if_good, if_good_by, refuses}
 use Rattle.answers.proofs.OrderLaws.{if_same}
 use Rattle.pool.specs.Bounds.{most_transfer}
 use Rattle.pool.specs.Marks.{marks_of}

@@ -25,6 +25,14 @@ senseless format Conflict sense k = refl
 senseless format Unusable sense k = refl
 senseless format Short sense k = refl
 
+pub senseless_but_refused : (format : ℕ) (a : Answer) (sense : List ℕ) → ((x : Refusal) → a ≡ Refused x → ⊥) → sense ≡ sense_after format a sense
+unfolding sense_after
+senseless_but_refused format Good sense k = refl
+senseless_but_refused format (Refused x) sense k = absurd (k x refl)
+senseless_but_refused format Conflict sense k = refl
+senseless_but_refused format Unusable sense k = refl
+senseless_but_refused format Short sense k = refl
+
 pub refused_sense : (format : ℕ) (a : Answer) (x : Refusal) (sense : List ℕ) {after : List ℕ} → a ≡ Refused x → after ≡ put sense 0 (sense_data format x)
     → after ≡ sense_after format a sense
 unfolding sense_after

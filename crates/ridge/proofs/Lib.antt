@@ -1,4 +1,3 @@
 pub mod InterfaceLaws
 pub mod Said
-pub mod Lent
 pub mod Only

@@ -66,13 +66,5 @@ pub extern "C" fn ridge_room(
         (store_of format unit.now owners.now marks.now medium.now)
         free_slots.old lowest_free.old }
 {
-    ridge::ridge_room(
-        format,
-        unit,
-        owners,
-        marks,
-        medium,
-        free_slots,
-        lowest_free,
-    )
+    ridge::ridge_room(format, unit, owners, marks, medium, free_slots, lowest_free)
 }

@@ -1,6 +1,6 @@
 -- The room that is read off the marks is what a walk over the owners says.
 -- Assumes nothing.
-use mathlib.Core.Path.{◌≡◌, refl, sym, ap, ◌∙◌}
+use mathlib.Core.Path.{◌≡◌, ap, ◌∙◌}
 use mathlib.Core.Bool.{true, false, not}
 use Prim.Native.Nat.{ℕ, ◌-◌, ◌≤◌}
 use native.Mathlib.Omega.{arith}
@@ -13,7 +13,6 @@ use Rattle.pool.specs.Bounds.{mark_words}
 use Rattle.pool.specs.Marks.{marked, lowest}
 use Rattle.pool.specs.Pool.{place, free}
 use Rattle.pool.proofs.Marking.{length_marks_of, marked_free, lowest_free}
-use Rattle.store.specs.declared.Room.{Room}
 use Rattle.store.specs.Store.{Store, usable}
 use Rattle.store.specs.Step.{store_rows}
 use Rattle.store.specs.Room.{room_answer, room_of}

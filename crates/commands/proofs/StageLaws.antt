@@ -2,8 +2,8 @@
 -- Assumes nothing.
 use mathlib.Core.Path.{◌≡◌, refl, sym, ap, ◌∙◌, subst}
 use mathlib.Core.Bool.{Bool, true, false, not, ◌&&◌, ◌||◌, true≢false}
-use mathlib.Core.List.{List, [], ◌∷◌, ◌++◌}
-use Prim.Native.Nat.{ℕ, zero, suc, ◌≤◌}
+use mathlib.Core.List.{List, ◌∷◌, ◌++◌}
+use Prim.Native.Nat.{ℕ, ◌≤◌}
 use native.Mathlib.Omega.{arith}
 use borrow.Author.Tests.{eq-eqb, ne_eqb}
 use lib.Dec.{T, eqb, eqb→eq}
@@ -13,7 +13,7 @@ use Rattle.answers.specs.declared.Refusal.{Refusal}
 use Rattle.answers.specs.declared.Answer.{Answer}
 use Rattle.answers.specs.declared.Answer.TheVariants.{Good, Refused, Conflict, Unusable}
 use Rattle.answers.specs.Answers.{not_listed}
-use Rattle.answers.specs.Order.{Row, ◌if◌, first, next, refuses, refusing}
+use Rattle.answers.specs.Order.{◌if◌, first, next, refuses, refusing}
 use Rattle.answers.proofs.OrderLaws.{row_pass, row_stop, row_end, first_append, refusing_append, next_end, next_after, next_refuses, next_first, next_second, good_cases}
 use Rattle.rights.specs.Attentions.{waiting_for, refusal_of}
 use Rattle.forms.specs.declared.Code.{Code}

@@ -1,8 +1,8 @@
 -- `step` as the code goes through it: the tests before any command, the stages, the command's own. Callers cite these laws, and not the text of `step`.
 -- Assumes nothing.
-use mathlib.Core.Path.{◌≡◌, refl, sym, ap, ◌∙◌}
+use mathlib.Core.Path.{◌≡◌, refl, ap, ◌∙◌}
 use mathlib.Core.Bool.{Bool, true, false, not, ◌&&◌, true≢false, false≢true}
-use mathlib.Core.List.{List, [], ◌∷◌, ◌++◌}
+use mathlib.Core.List.{List, [], ◌∷◌}
 use Prim.Native.Nat.{ℕ}
 use lib.Dec.{T}
 use Rattle.fields.proofs.Tests.{T_false}
@@ -17,8 +17,7 @@ use Rattle.forms.specs.declared.Command.{Command}
 use Rattle.forms.specs.declared.Command.TheVariants.{Tells, Moves, Alters}
 use Rattle.forms.specs.declared.Entry.{Entry}
 use Rattle.forms.specs.declared.Request.{Request}
-use Rattle.forms.specs.Forms.{entry_of, Asked, asks, asked_in, asked_of}
-use Rattle.forms.specs.Tests.{field_rows}
+use Rattle.forms.specs.Forms.{entry_of, Asked, asked_in, asked_of}
 use Rattle.forms.proofs.Fields.{Fits, asked_fits}
 use Rattle.decoder.specs.declared.Decoded.TheVariants.{Asks, Wrong}
 use Rattle.store.specs.Store.{Store, Call, Result, with_unit, refused_unit, leaves, seen_of}
@@ -26,7 +25,7 @@ use Rattle.store.specs.Tell.{tell_rows}
 use Rattle.store.specs.Move.{move_rows, moved}
 use Rattle.store.specs.Alter.{alter_rows}
 use Rattle.store.proofs.Rows.{command_quiet}
-use Rattle.store.specs.Step.{call_rows, store_rows, stage_rows, command_rows, own_rows, answer_by, command_data, data_by, command_store, store_by, step_by, step}
+use Rattle.store.specs.Step.{call_rows, store_rows, stage_rows, command_rows, own_rows, answer_by, data_by, command_store, store_by, step_by, step}
 use Rattle.reply.specs.declared.Outcome.{Outcome}
 use Rattle.reply.specs.Contract.{call_of, left}
 use Rattle.reply.specs.Reply.{reply_of, Served, served, serves}

@@ -10,20 +10,20 @@ use borrow.Author.Tests.{eq-eqb, ne_eqb}
 use lib.Dec.{T, eqb, eqb→eq, eqb_refl}
 use Rattle.fields.specs.Field.{byte}
 use Rattle.fields.specs.Bits.{number_in}
-use Rattle.fields.proofs.Tests.{and_l, and_r, both, not_map, not_not, by_equal, test, T_true, T_false, true→T, false→T}
+use Rattle.fields.proofs.Tests.{and_l, and_r, both, by_equal, test, T_true, T_false, false→T}
 use Rattle.answers.specs.declared.Answer.{Answer}
-use Rattle.answers.specs.declared.Answer.TheVariants.{Good, Refused}
-use Rattle.answers.specs.Answers.{codes, codes_of, number_of, is_attention, not_listed}
-use Rattle.answers.specs.Order.{first, if_good, refuses}
-use Rattle.answers.proofs.OrderLaws.{if_good_law, if_refused, good_cases, not_good}
+use Rattle.answers.specs.declared.Answer.TheVariants.{Refused}
+use Rattle.answers.specs.Answers.{codes, codes_of, number_of, is_attention}
+use Rattle.answers.specs.Order.{refuses}
+use Rattle.answers.proofs.OrderLaws.{if_good_law, if_refused, good_cases}
 use Rattle.rights.specs.declared.Rights.{Rights}
 use Rattle.rights.specs.declared.Action.{Action}
 use Rattle.rights.specs.declared.Action.TheVariants.{Register, Reserve, Release, Clear, Preempt, RegisterIgnoring}
-use Rattle.rights.specs.Places.{registered, key_of}
-use Rattle.rights.specs.Rights.{is_one_of, one_holds, all_hold, holds, holder_key}
-use Rattle.rights.specs.Actions.{registering, preempting, taking_over, acted}
-use Rattle.rights.specs.Attentions.{attentions_ok, waiting_for, refusal_of, returned_to}
-use Rattle.rights.specs.Notices.{for_registrants, release_notice, notice, renewed, notified}
+use Rattle.rights.specs.Places.{key_of}
+use Rattle.rights.specs.Rights.{is_one_of, one_holds, all_hold, holder_key}
+use Rattle.rights.specs.Actions.{preempting, taking_over, acted}
+use Rattle.rights.specs.Attentions.{attentions_ok, waiting_for, refusal_of}
+use Rattle.rights.specs.Notices.{for_registrants, release_notice, notice, renewed}
 use Rattle.rights.proofs.Holders.{holder_key_law}
 use Rattle.rights.proofs.AttentionLaws.{returned_own, returned_other, notified_at, sender_keeps}
 use Rattle.rights.proofs.NoticeLaws.{registering_notice, reserving_notice, releasing_notice, clearing_notice, preempting_notice, taking_notice}
@@ -32,7 +32,7 @@ use Rattle.forms.specs.declared.Command.TheVariants.{Tells, Moves, Alters}
 use Rattle.forms.specs.declared.Request.{Request}
 use Rattle.forms.specs.Forms.{Asked, nothing, asks, asked_of}
 use Rattle.forms.proofs.Table.{is_moves, moves_in, is_inquiring, asked_other}
-use Rattle.store.specs.Store.{Store, Call, with_unit, usable, waiting, relieved, enacted}
+use Rattle.store.specs.Store.{Store, Call, usable, waiting, relieved, enacted}
 use Rattle.store.specs.Alter.{parameters_of}
 use Rattle.store.specs.Step.{is_inquiry, due, command_store, store_by, step, answer_to}
 use Rattle.store.proofs.Parts.{attention_refused}
@@ -45,10 +45,10 @@ use Rattle.demands.specs.Reservations.{key_in, is_registered, is_holder, type_in
 use Rattle.demands.specs.Attentions.{waits, newest, NowWaits, is_shared, changes_type, Attentions, command_sends, asked_sends, sends, tells, some, sent_to, told_to, latest, NoneLost}
 use Rattle.demands.proofs.Answering.{at_attention, thirteen_due, thirteen_is, due_answers}
 use Rattle.demands.proofs.Usable.{usable_unit, unit_attentions, usable_stays}
-use Rattle.demands.proofs.Demand1.{attention_number, number_attention, told_store_law, refused_store_law}
+use Rattle.demands.proofs.Demand1.{attention_number, number_attention, told_store_law}
 use Rattle.demands.proofs.Demand3.{other_unit, other_alters_not, inquiry_out_not, never}
-use Rattle.demands.proofs.Moving.{good_usable, done_after, refused_after, after_ways}
-use Rattle.demands.proofs.Altering.{altered_attentions, altered_ok, altered}
+use Rattle.demands.proofs.Moving.{good_usable, done_after, refused_after}
+use Rattle.demands.proofs.Altering.{altered_attentions, altered_ok}
 use Rattle.demands.proofs.Reservations.{registers_acted}
 
 -- ---- told

@@ -24,7 +24,7 @@ use Rattle.answers.specs.Sense.{format_ok, sense_after}
 use Rattle.answers.proofs.OrderLaws.{row_pass, row_stop, row_end}
 use Rattle.pool.specs.Bounds.{most_slots, word_slots}
 use Rattle.pool.specs.Marks.{mark_of, word_of, marks_of, marked, lowest}
-use Rattle.pool.specs.Pool.{Pool, place, has, mapped, free, unmapped, room_for, assign, assign_blocks, write_blocks}
+use Rattle.pool.specs.Pool.{Pool, place, has, mapped, free, room_for, assign, assign_blocks, write_blocks}
 use Rattle.pool.specs.Valid.{capacity_ok, slots_ok}
 use Rattle.pool.proofs.Held.{place_at, place_below, place_lowest, has_free, free_zeros}
 use Rattle.pool.proofs.Keeping.{pool_ok_slots, pool_ok_whole, pool_ok_map, pool_ok_of}

@@ -6,7 +6,7 @@ use mathlib.Core.Bool.{not}
 use mathlib.Core.List.{List}
 use Prim.Native.Nat.{ℕ, ◌≤◌}
 use lib.Dec.{T, eqb}
-use Rattle.fields.specs.Field.{byte, bit}
+use Rattle.fields.specs.Field.{bit}
 use Rattle.fields.proofs.Tests.{true→T}
 use Rattle.forms.specs.declared.Tell.TheVariants.{Capacity16}
 use Rattle.forms.specs.declared.Command.TheVariants.{Tells}

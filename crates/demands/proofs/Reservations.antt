@@ -25,7 +25,7 @@ use Rattle.forms.specs.declared.Command.{Command}
 use Rattle.forms.specs.declared.Command.TheVariants.{Tells, Moves, Alters}
 use Rattle.forms.specs.declared.Request.{Request}
 use Rattle.forms.specs.Forms.{Asked, nothing, asks, asked_of}
-use Rattle.store.specs.Store.{Store, Call, with_rights, with_unit, relieved, enacted}
+use Rattle.store.specs.Store.{Store, Call, with_unit, relieved, enacted}
 use Rattle.store.specs.Alter.{parameters_of}
 use Rattle.store.specs.Tell.{told}
 use Rattle.store.specs.Step.{command_store, store_by, step}

@@ -1,10 +1,10 @@
 -- Demand 3 is about something, by computation: two stores and histories that differ and of which it speaks.
 -- Assumes nothing.
-use mathlib.Core.Path.{◌≡◌, refl, sym, ap, ◌∙◌}
+use mathlib.Core.Path.{◌≡◌, refl, sym, ◌∙◌}
 use mathlib.Core.Bool.{not, ◌&&◌}
-use mathlib.Core.List.{List, [], ◌∷◌}
+use mathlib.Core.List.{[], ◌∷◌}
 use lib.Dec.{T}
-use Rattle.store.specs.Store.{Call, usable}
+use Rattle.store.specs.Store.{usable}
 use Rattle.store.specs.Step.{step}
 use Rattle.demands.specs.History.{watched, heard}
 use Rattle.demands.specs.Checker.{same}

@@ -15,7 +15,7 @@ use Rattle.fields.proofs.BytesLaws.{are_zeros_zeros}
 use Rattle.fields.proofs.Tests.{and_l, both, test, by_test, true→T, T_true, T_false, by_equal}
 use Rattle.answers.specs.declared.Answer.{Answer}
 use Rattle.answers.specs.declared.Answer.TheVariants.{Good, Refused}
-use Rattle.answers.specs.Order.{◌if◌, first}
+use Rattle.answers.specs.Order.{first}
 use Rattle.answers.proofs.OrderLaws.{good_cases}
 use Rattle.pool.specs.Pool.{Pool, place, mapped, read_block, unmap_owners, unmap_blocks}
 use Rattle.pool.proofs.Writing.{in_or_out}

@@ -1,6 +1,6 @@
 -- GET LBA STATUS as those put it who ask for it: of any build, so that wrong ones can be put in; proofs/MapTold proves it of `step`.
 -- Assumes nothing.
-use Rattle.std.specs.Prelude.{◌≡◌, ◌↔◌, ◌≢◌, List, ℕ, ◌≤◌, ◌<◌, T, length, take}
+use Rattle.std.specs.Prelude.{◌≡◌, ◌↔◌, ◌≢◌, List, ℕ, ◌≤◌, ◌<◌, T, take}
 use Rattle.fields.specs.Field.{byte}
 use Rattle.answers.specs.declared.Answer.TheVariants.{Good, Conflict}
 use Rattle.answers.specs.Answers.{number_of, out_of_range}

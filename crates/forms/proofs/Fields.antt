@@ -11,7 +11,7 @@ use Rattle.fields.specs.Field.{byte}
 use Rattle.fields.specs.Bits.{number_in}
 use Rattle.fields.proofs.Tests.{and_l, and_r, nor_r, or_other, not_not, not_not_intro, test, by_equal, false→T, T_false}
 use Rattle.answers.specs.declared.Answer.TheVariants.{Good}
-use Rattle.answers.specs.Order.{◌if◌, first, refuses}
+use Rattle.answers.specs.Order.{first, refuses}
 use Rattle.answers.proofs.OrderLaws.{row_fails, rows_after}
 use Rattle.pool.specs.Bounds.{most_transfer}
 use Rattle.rights.specs.Rights.{is_type}

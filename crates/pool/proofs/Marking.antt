@@ -1,7 +1,7 @@
 -- The marks: what the ones and the trailing ones of a word are, said once over the word, and what setting or clearing a bit makes of it.
 -- Assumes nothing.
 use mathlib.Core.Path.{◌≡◌, refl, sym, ap, ap₂, ◌∙◌}
-use mathlib.Core.Bool.{Bool, true, cond}
+use mathlib.Core.Bool.{cond}
 use mathlib.Core.List.{List, [], ◌∷◌}
 use mathlib.Core.Logic.{◌≢◌}
 use Prim.Native.Nat.{ℕ, zero, suc, ◌+◌, ◌-◌, ◌*◌, ◌/◌, ◌%◌, ◌^◌, ◌<◌, ◌≤◌, min, max}
@@ -12,7 +12,7 @@ use lib.Count.{ones, ones_step, count_trailing_zeros, under}
 use lib.Dec.{T, eqb, eqb→eq, eqb_refl}
 use lib.ListN.{length, get_or, take, drop, set, length-take, length-drop}
 use lib.Pow.{pow_pos, pow-lt}
-use borrow.Author.Tests.{eq-eqb, ne_eqb}
+use borrow.Author.Tests.{ne_eqb}
 use Rattle.fields.specs.Bytes.{zeros}
 use Rattle.fields.proofs.Tests.{and_l, and_r, both, by_equal}
 use Rattle.pool.specs.Bounds.{word_slots, mark_words}

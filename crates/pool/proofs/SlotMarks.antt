@@ -1,20 +1,19 @@
 -- The mark of a slot among those of its pool: setting and clearing it, and that the marks are right exactly if each slot's mark says what
 -- its owner does. "slot i is bit i mod 64 of word i / 64". Assumes nothing.
-use mathlib.Core.Path.{◌≡◌, refl, sym, ap, ap₂, ◌∙◌}
-use mathlib.Core.Bool.{Bool, not}
+use mathlib.Core.Path.{◌≡◌, refl, sym, ap, ◌∙◌}
 use mathlib.Core.List.{List, [], ◌∷◌}
 use mathlib.Core.Logic.{◌≢◌}
 use Prim.Native.Nat.{ℕ, zero, suc, ◌+◌, ◌-◌, ◌*◌, ◌/◌, ◌%◌, ◌^◌, ◌<◌, ◌≤◌}
 use native.Mathlib.Nat.{pow-suc, div-div-eq-div-mul, mul_comm}
 use native.Mathlib.Omega.{arith}
 use lib.Bits.{bit_and, bit_or}
-use lib.Dec.{T, eqb, ltb, ltb→lt, nltb→le}
+use lib.Dec.{ltb, ltb→lt, nltb→le}
 use lib.ListN.{length, get_or, take, drop, set, length-take, length-drop}
-use lib.Seq.{take-set-le, take-set-lt, drop-set-lt, drop-set-add, get_or-take, get_or-drop}
+use lib.Seq.{take-set-le, take-set-lt, drop-set-lt, drop-set-add}
 use Rattle.fields.proofs.Tests.{test}
-use Rattle.pool.specs.Bounds.{most_slots, word_slots, mark_words}
-use Rattle.pool.specs.Marks.{mark_of, word_of, marks_of, marks_ok}
-use Rattle.pool.proofs.Marking.{mark_free, mark_most, low_digit, high_digits, word_set, word_clear, word_lt, is_marks_ok}
+use Rattle.pool.specs.Bounds.{most_slots, word_slots}
+use Rattle.pool.specs.Marks.{mark_of, word_of, marks_of}
+use Rattle.pool.proofs.Marking.{mark_free, mark_most, low_digit, high_digits, word_set, word_clear}
 
 -- ---- one slot's mark is changed
 

@@ -1,7 +1,6 @@
 -- The room of a store. Q-7: "The gateway asks for the free count before each batch and finds the lowest free slot by reading all owners."
 -- What it is told is what that walk over the owners says. It is no command: nobody's right is asked, and nothing changes.
 -- Assumes nothing.
-use Rattle.std.specs.Prelude.{ℕ}
 use Rattle.answers.specs.declared.Answer.{Answer}
 use Rattle.answers.specs.Order.{first, if_good}
 use Rattle.pool.specs.Pool.{place, free}

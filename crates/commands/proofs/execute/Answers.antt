@@ -1,5 +1,4 @@
 use mathlib.Core.Path.{sym, ◌∙◌}
-use borrow.Author.Tests.{not-true, not-false}
 use mathlib.Core.List.{[]}
 use Rattle.commands.proofs.SenseLaws.{senseless_but_refused, refused_sense}
 use Rattle.commands.proofs.StepLaws.{step_unready, step_wrong, asks_fits, step_served}

@@ -1,5 +1,5 @@
 use mathlib.Core.Path.{sym, ◌∙◌}
-use borrow.Author.Tests.{not-true, not-false, ne_eqb, eq-eqb}
+use borrow.Author.Tests.{ne_eqb, eq-eqb}
 use Rattle.commands.proofs.FreshLaws.{fresh_capacity, fresh_format, fresh_slots, fresh_marks, fresh_made}
 use Rattle.commands.proofs.fresh.Goals as goal
 

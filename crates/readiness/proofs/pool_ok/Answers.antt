@@ -1,6 +1,6 @@
 use mathlib.Core.Path.{sym, ◌∙◌}
 use native.Mathlib.Omega.{arith}
-use borrow.Author.Tests.{not-true, not-false, ne_eqb, eq-eqb}
+use borrow.Author.Tests.{ne_eqb, eq-eqb}
 use Rattle.readiness.proofs.ReadyLaws.{slots_few, pool_slots, pool_torn, pool_rest}
 use Rattle.readiness.proofs.pool_ok.Goals as goal
 

@@ -1,6 +1,5 @@
 -- `readiness::unit_ok` meets its contract. Assumes nothing.
 use mathlib.Core.Path.{sym, ◌∙◌}
-use borrow.Author.Tests.{not-true, not-false}
 use Rattle.readiness.proofs.ReadyLaws.{unit_bad, unit_wrong, unit_rest}
 use Rattle.readiness.proofs.unit_ok.Goals as goal
 

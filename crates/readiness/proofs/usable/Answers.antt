@@ -1,5 +1,4 @@
 use mathlib.Core.Path.{sym, ◌∙◌}
-use borrow.Author.Tests.{not-true, not-false}
 use Rattle.readiness.proofs.ReadyLaws.{usable_format, usable_unit, usable_rest}
 use Rattle.readiness.proofs.usable.Goals as goal
 

@@ -1,5 +1,4 @@
 -- `decoder::codes::service_in` meets its contract. Assumes nothing.
-use mathlib.Core.Logic.{inl, inr}
 use mathlib.Core.Path.{sym, ◌∙◌}
 use borrow.Author.Tests.{ne_eqb}
 use Rattle.forms.proofs.Table.{lookup_passes, taken, passed}

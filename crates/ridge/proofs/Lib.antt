@@ -1,3 +1,2 @@
 pub mod InterfaceLaws
-pub mod Said
 pub mod Only

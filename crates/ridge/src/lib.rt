@@ -1,8 +1,8 @@
-// The C interface of the store: a unit's record, numbers and lent slices, so that C and Rust can call it. host/include/ridge.h declares it.
+// The C interface of the store: a unit's record, numbers and lent slices, so that C and Rust can call it. `ridge_c` has it under C's names, and
+// host/include/ridge.h declares it.
 // The record is C's struct of the same fields, 168 bytes with no padding: the capacity at 0, the rights at 8, and in these the places at 0,
 // the holder at 128, the generation at 136 and the type at 140; the attentions at 152. Any 168 bytes are one, so nothing is required of them.
-// Each function takes the record out, calls its half in `by_value`, and puts the record back: a function over a lent record is walked by hand,
-// so the meaning stands there.
+// Each function takes the record out, calls its half in `by_value`, and puts the record back.
 #![tactic(auto)]
 
 ghost use Rattle.std.specs.Prelude.{◌≡◌};

@@ -28,7 +28,7 @@ pub record MapTold (f : Build) : Type 0 where
   pub told : (s : Store) (c : Call) (a : Asks Status c) → GoodBy f s c → Shown s c (address_in a.request) (allocation_in a.request) (f s c).seen
   -- it changes nothing, however it is answered, unless it only told what waited
   pub still : (s : Store) (c : Call) → Asks Status c → number_of (f s c).seen.answer ≢ 13 → after f s c ≡ s
-  -- "Demand 3's shut_out_law calls now include GET LBA STATUS": it is answered 10 to those who may not read, and to nobody else
+  -- "Demand 3's shut-out calls now include GET LBA STATUS": it is answered 10 to those who may not read, and to nobody else
   pub shut_out_law : (s : Store) (c : Call) → Asks Status c → T (usable s) → by_itself s.format c ≡ Good → Quiet s c
       → (f s c).seen.answer ≡ Conflict ↔ T (is_shut_out s c)
   -- "3 for a start at or past capacity"

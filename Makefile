@@ -11,7 +11,7 @@ help: ## this list
 run: ## the bench on an example sheet, or on SHEET=path
 	@tools/run_sheet "$${SHEET:-examples/01-example.sheet}"
 
-test: ## the gate: every proof from nothing, every wrong edit refused, every program and host check run
+test: ## the gate: every proof (but what passed here before, of the same files), every wrong edit refused, every program and host check run
 	@tools/test
 
 serve: ## a store for SCSI tools, until Ctrl-C: CAPACITY=blocks SLOTS=n SENSE=fixed|descriptor IMAGE=file VERBOSE=0..2

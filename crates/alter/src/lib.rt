@@ -24,6 +24,7 @@ fn parameters_of(request: Request, list: &[u8]) -> Parameters
     }
 }
 
+#[tactic(auto, using(crate::proofs::AlterLaws::alter_short))]
 pub fn alter(
     action: Action,
     request: Request,

@@ -1,13 +1,15 @@
 -- Laws of the search over the places: each question asks whether it finds a place, and where.
 -- Assumes nothing.
-use Rattle.std.proofs.Common.{◌≡◌, ℕ, suc, ◌+◌, ◌<◌, ◌≤◌, Bool, true, false, cond, not, ◌||◌, ltb, List, [], ◌∷◌, length, get_or, drop, set, sym, refl, ap, ◌∙◌, add-one, arith, length-drop, drop-cons, ltb-false, ltb-true, le-ltb, lt-ltb}
+use Rattle.std.proofs.Common.{◌≡◌, ℕ, suc, ◌+◌, ◌<◌, ◌≤◌, Bool, true, false, cond, not, ◌||◌, ltb, List, [], ◌∷◌, length, get_or, drop, set, sym, refl, ap, ◌∙◌, add-one, arith, length-drop, drop-cons, ltb-false, ltb-true, le-ltb, lt-ltb, ne_eqb, ◌≢◌}
+use borrow.Author.Tests.{lt-leb}
 use lib.Dec.{leb-suc-suc}
 use lib.Seq.{drop-length}
 use Rattle.rights.specs.declared.Place.{Place}
 use Rattle.reservations.specs.declared.places.Want.{Want}
 use Rattle.reservations.specs.declared.places.Want.TheVariants.{Of, Keyed, Used, Free}
 use Rattle.rights.specs.Places.{used, unused, registration, is_of, registered, key_of, somebody, vacant, known, enrol}
-use Rattle.reservations.specs.Search.{wants, seek, has}
+use Rattle.rights.specs.Rights.{place_ok}
+use Rattle.reservations.specs.Search.{wants, seek, has, sound_before}
 
 -- ---- turns of the search
 
@@ -78,3 +80,9 @@ pub enrol_found : (n k : ℕ) (ps : List Place) → enrol n k ps ≡ set ps (see
 unfolding enrol seek wants
 enrol_found n k [] = refl
 enrol_found n k (p ∷ ps) = enrol_step n k p ps (used p) (seek Free ps) (enrol_found n k ps)
+
+-- ---- a place that is used by a nexus there is not, whatever the code calls the test that found it
+
+pub sound_beyond : (p : Place) (ps : List Place) → p.key ≢ 0 → 15 < p.nexus → false ≡ sound_before p ps
+unfolding sound_before place_ok used
+sound_beyond p ps k h = simp (ne_eqb _ _ k, lt-leb _ _ h)

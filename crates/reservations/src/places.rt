@@ -160,6 +160,7 @@ pub fn change_all(places: [Place; REGISTRATION_PLACES], by: Change) -> [Place; R
 }
 
 // Whether a place holds what it may, and no later one its nexus.
+#[tactic(auto, using(crate::proofs::SearchLaws::sound_beyond))]
 fn sound(places: [Place; REGISTRATION_PLACES], i: usize) -> bool
     requires { i < registration_places }
     ensures { result ≡ sound_before (slice_index_or places i unused) (drop (i + 1) places) }

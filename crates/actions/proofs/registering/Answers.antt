@@ -1,5 +1,6 @@
 -- `actions::registering` meets its contract.
 -- Assumes nothing.
+use Rattle.std.proofs.Common.{◌≢◌, arith}
 use mathlib.Core.Path.{sym, ◌∙◌}
 use borrow.Author.Tests.{eq-eqb, ne_eqb}
 use Rattle.rights.specs.Actions.{registering}
@@ -15,4 +16,6 @@ returns-then-key-eq0 c = simp (sym c.has.ensures ∙ c.if-has.false, eq-eqb _ _ 
 
 pub returns : goal.returns
 unfolding registering
-returns c = simp (sym c.has.ensures ∙ c.if-has.false, ne_eqb _ _ c.if-key-eq0.false, c.raised-2.ensures, c.with_places-2.ensures, c.enrol-places.ensures)
+returns c =
+    let other : c.args.key ≢ 0 = omega arith in
+    simp (sym c.has.ensures ∙ c.if-has.false, ne_eqb _ _ other, c.raised-2.ensures, c.with_places-2.ensures, c.enrol-places.ensures)

@@ -1,6 +1,7 @@
 -- `alter::alter` meets its contract. Assumes nothing.
+use Rattle.std.proofs.Common.{arith}
 use mathlib.Core.Path.{◌∙◌}
-use Rattle.alter.proofs.AlterLaws.{alter_length, alter_short, alter_decided}
+use Rattle.alter.proofs.AlterLaws.{alter_length, alter_decided}
 use Rattle.alter.proofs.alter.Goals as goal
 
 pub list_length-answer-requires : goal.list_length-answer-requires
@@ -9,9 +10,6 @@ list_length-answer-requires c = tt
 pub returns-then-request-ne24 : goal.returns-then-request-ne24
 returns-then-request-ne24 c = alter_length _ _ _ _ _ _ c.list_length-answer.ensures c.if-request-ne24.true
 
-pub returns-then-data_out-lt24 : goal.returns-then-data_out-lt24
-returns-then-data_out-lt24 c = alter_short _ _ _ _ _ c.if-request-ne24.false c.if-data_out-lt24.true
-
 pub parameters_of-parameters-requires : goal.parameters_of-parameters-requires
 parameters_of-parameters-requires c = tt
 
@@ -19,4 +17,4 @@ pub decide-requires : goal.decide-requires
 decide-requires c = tt
 
 pub returns : goal.returns
-returns c = c.decide.ensures ∙ rw c.parameters_of-parameters.ensures (alter_decided _ _ _ _ _ c.if-request-ne24.false c.if-data_out-lt24.false)
+returns c = c.decide.ensures ∙ rw c.parameters_of-parameters.ensures (alter_decided _ _ _ _ _ c.if-request-ne24.false (omega arith))

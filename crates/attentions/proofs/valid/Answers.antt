@@ -6,6 +6,7 @@ use borrow.Author.Tests.{lt-leb, le-leb}
 use borrow.Author.Rules.{rules}
 use Rattle.rights.specs.Attentions.{attentions_ok}
 use Rattle.attentions.proofs.SendingLaws.{every_stops, every_goes, every_end}
+use Prim.Native.Nat.{◌<◌}
 use Rattle.attentions.proofs.valid.Goals as goal
 
 pub loop-i-init : goal.loop-i-init
@@ -13,14 +14,9 @@ loop-i-init c = (omega arith, refl)
 
 pub loop-i-preserved : goal.loop-i-preserved
 loop-i-preserved c =
-    let a = c.args in
-    let l = c.loop-i in (
-      omega arith,
-      elim c.if-attentions-i-gt-RESERVATIONS_RELEASED.branch [
-        | goal.then-attentions-i-gt-RESERVATIONS_RELEASED w ↦ every_stops a.attentions l.i l.all l.invariant.1 _ (search rules) (lt-leb _ 3 w.if-attentions-i-gt-RESERVATIONS_RELEASED.true) w.all-is
-        | goal.else-attentions-i-gt-RESERVATIONS_RELEASED w ↦ every_goes a.attentions l.i l.all l.invariant.1 _ (search rules) (le-leb _ 3 w.if-attentions-i-gt-RESERVATIONS_RELEASED.false) w.all-is
-      ],
-    )
+    let inv = c.loop-i.invariant.1 in
+    let here : c.loop-i.i < length c.args.attentions = search rules in
+    (omega arith, grind (arith, every_stops c.args.attentions c.loop-i.i c.loop-i.all inv, every_goes c.args.attentions c.loop-i.i c.loop-i.all inv, lt-leb, le-leb))
 
 pub returns : goal.returns
 unfolding attentions_ok

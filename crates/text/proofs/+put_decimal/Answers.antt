@@ -14,6 +14,5 @@ put_text-requires-2 t c = omega (arith, puts_most _ 19 c.put_decimal-last.ensure
 
 pub returns : goal.returns
 returns t c =
-    let h = c.if-x-lt10.false in
-    let p = puts_more c.args.x c.put_decimal-last.ensures.0 c.put_text-2.ensures (omega (arith, h)) (omega arith) c.digit-2.ensures in
+    let p = puts_more c.args.x c.put_decimal-last.ensures.0 c.put_text-2.ensures (omega arith) (omega arith) c.digit-2.ensures in
     (p, puts_most c.args.x 20 p (omega arith) (omega arith))

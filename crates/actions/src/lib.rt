@@ -1,270 +1,251 @@
 // The six actions of PERSISTENT RESERVE OUT: each tests what its rows test, in their order, and then changes the rights.
 #![tactic(auto)]
 
-ghost use Rattle.std.specs.Prelude.{◌≡◌, not, [], ◌∷◌};
+ghost use Rattle.std.specs.Prelude.{◌≡◌, eqb, not, [], ◌∷◌};
+ghost use Rattle.rights.specs.Places.{registered, key_of};
 ghost use Rattle.answers.specs.Order.{◌if◌, first};
 ghost use Rattle.answers.specs.Answers.{list_field, no_place};
 ghost use Rattle.rights.specs.declared.Action.TheVariants.{Register, Reserve, Release, Clear, Preempt, RegisterIgnoring};
-ghost use Rattle.rights.specs.Rights.{all_hold};
-ghost use Rattle.rights.specs.Actions.{service_key_bits, register_flags, stranger, crowded, registering, preempting, taking_over, decided};
-ghost use Rattle.actions.specs.Decided.{decided_by};
+ghost use Rattle.rights.specs.Rights.{all_hold, with_places};
+ghost use Rattle.rights.specs.Actions.{service_key_bits, register_flags, stranger, crowded, registering, clearing, preempting, taking_over};
+ghost use Rattle.rights.specs.Actions.{decided, unless_refused};
 
 use answers::Answer;
 use fields::numbers;
-use reservations::places::{Change, Want};
 use reservations::{kinds, places, standing};
-use rights::{Action, Decision, FLAGS_BYTE, Parameters, Rights, SERVICE_KEY_BYTE};
+use rights::{
+    Action, FLAGS_BYTE, NO_TYPE, Parameters, Place, REGISTRATION_PLACES, Rights, SERVICE_KEY_BYTE,
+};
 
-// What a reservation-out call decides.
-pub fn decide(action: Action, rights: Rights, nexus: u64, parameters: Parameters) -> Decision
-    ensures { result ≡ decided action rights nexus parameters }
+// What a reservation-out call decides: a refusal, or the rights after it.
+pub fn decide(
+    action: Action,
+    rights: &Rights,
+    nexus: u64,
+    parameters: Parameters,
+) -> Result<Rights, Answer>
+    ensures { result ≡ decided action rights.now nexus parameters }
 {
+    let claim = Claim {
+        rights,
+        nexus,
+        parameters,
+    };
     match action {
-        Action::Register => register(rights, nexus, parameters),
-        Action::Reserve => reserve(rights, nexus, parameters),
-        Action::Release => release(rights, nexus, parameters),
-        Action::Clear => clear(rights, nexus, parameters),
-        Action::Preempt => preempt(rights, nexus, parameters),
-        Action::RegisterIgnoring => register_ignoring(rights, nexus, parameters),
+        Action::Register => claim.register(),
+        Action::Reserve => claim.reserve(),
+        Action::Release => claim.release(),
+        Action::Clear => claim.clear(),
+        Action::Preempt => claim.preempt(),
+        Action::RegisterIgnoring => claim.register_ignoring(),
     }
 }
 
-// What the flags answer to both kinds of registering: one row, one test.
-fn flag_refusal(parameters: Parameters) -> Answer
-    ensures { result ≡ first (register_flags parameters) }
+// What the flags answer to both kinds of registering. Three tests and no loop: `register_flags` has a row for each.
+#[tactic(auto, unfolding(rights::specs::Actions::register_flags, answers::specs::Order::first_of, answers::specs::Order::if_good_by, answers::specs::Order::refuses, fields::specs::Bits::first_byte, fields::specs::Bits::top_bit, fields::specs::Bits::bit_count))]
+fn flags_allowed(parameters: Parameters) -> Result<(), Answer>
+    ensures { result ≡ unless_refused (first (register_flags parameters)) tt }
 {
     if numbers::bit(parameters.flags, 3) {
-        return answers::list_field(FLAGS_BYTE, 3, 1);
+        return Err(answers::list_field(FLAGS_BYTE, 3, 1));
     }
     if numbers::bit(parameters.flags, 2) {
-        return answers::list_field(FLAGS_BYTE, 2, 1);
+        return Err(answers::list_field(FLAGS_BYTE, 2, 1));
     }
     if numbers::bit(parameters.flags, 0) {
-        return answers::list_field(FLAGS_BYTE, 0, 1);
+        return Err(answers::list_field(FLAGS_BYTE, 0, 1));
     }
-    Answer::Good
+    Ok(())
 }
 
-// Whether the sender is unregistered, or its key wrong.
-fn stranger(rights: Rights, nexus: u64, parameters: Parameters) -> bool
-    ensures { result ≡ stranger rights nexus parameters }
-{
-    let places = rights.places;
-    if !places::has(places, Want::Of(nexus)) {
-        return true;
-    }
-    !(parameters.key == places::key_of(places, nexus))
+// What a nexus asks of the rights.
+#[derive(Clone, Copy)]
+struct Claim<'a> {
+    rights: &'a Rights,
+    nexus: u64,
+    parameters: Parameters,
 }
 
-// Whether a nexus that has no place wants one, and all are used.
-fn crowded(rights: Rights, nexus: u64, parameters: Parameters) -> bool
-    ensures { result ≡ crowded rights nexus parameters }
-{
-    let places = rights.places;
-    if places::has(places, Want::Of(nexus)) {
-        return false;
+#[tactic(auto, unfolding(rights::specs::Actions::decided, rights::specs::Actions::decision_rows, rights::specs::Actions::flag_rows, rights::specs::Actions::register_flags, rights::specs::Actions::key_wrong, rights::specs::Actions::action_rows, rights::specs::Actions::acted, rights::specs::Actions::reserving, rights::specs::Actions::releasing, answers::specs::Order::first_of, answers::specs::Order::if_good_by, answers::specs::Order::refuses))]
+impl Claim<'_> {
+    // Whether the sender is registered.
+    fn is_registered(&self) -> bool
+        ensures { result ≡ registered self.now.nexus self.now.rights.now.places }
+    {
+        places::is_registered(&self.rights.places, self.nexus)
     }
-    if parameters.service == 0 {
-        return false;
-    }
-    !places::has(places, Want::Free)
-}
 
-// The rights after a nexus gave a key, or 0.
-fn registering(rights: Rights, nexus: u64, key: u64) -> Rights
-    ensures { result ≡ registering rights nexus key }
-{
-    let old = rights.places;
-    if places::has(old, Want::Of(nexus)) {
-        let places = places::change_all(old, Change::Rekey(nexus, key));
-        return standing::raised(standing::settled(standing::with_places(rights, places)));
+    // Whether the key given is that of the sender, which is 0 where it is not registered.
+    fn gives_key(&self) -> bool
+        ensures { result ≡ eqb self.now.parameters.key (key_of self.now.nexus self.now.rights.now.places) }
+    {
+        self.parameters.key == places::key_of(&self.rights.places, self.nexus)
     }
-    if key == 0 {
-        return rights;
-    }
-    let places = places::enrol(old, nexus, key);
-    standing::raised(standing::with_places(rights, places))
-}
 
-// What both kinds of registering share, once flags and key are tested.
-fn enter(rights: Rights, nexus: u64, parameters: Parameters) -> Decision
-    ensures { result ≡ decided_by (no_place if crowded rights nexus parameters ∷ []) (registering rights nexus parameters.service) rights }
-{
-    if crowded(rights, nexus, parameters) {
-        let answer = answers::no_place();
-        return Decision { answer, rights };
+    // Whether the sender is unregistered, or its key wrong.
+    #[tactic(auto, unfolding(rights::specs::Actions::stranger))]
+    fn by_stranger(&self) -> bool
+        ensures { result ≡ stranger self.now.rights.now self.now.nexus self.now.parameters }
+    {
+        !self.is_registered() || !self.gives_key()
     }
-    let after = registering(rights, nexus, parameters.service);
-    Decision {
-        answer: Answer::Good,
-        rights: after,
-    }
-}
 
-fn register(rights: Rights, nexus: u64, parameters: Parameters) -> Decision
-    ensures { result ≡ decided Register rights nexus parameters }
-{
-    let refusal = flag_refusal(parameters);
-    let Answer::Good = refusal else {
-        return Decision {
-            answer: refusal,
-            rights,
-        };
-    };
-    let places = rights.places;
-    if !(parameters.key == places::key_of(places, nexus)) {
-        return Decision {
-            answer: Answer::Conflict,
-            rights,
-        };
+    // Whether a nexus that has no place wants one, and all are used.
+    #[tactic(auto, unfolding(rights::specs::Actions::crowded))]
+    fn crowded(&self) -> bool
+        ensures { result ≡ crowded self.now.rights.now self.now.nexus self.now.parameters }
+    {
+        !self.is_registered()
+            && self.parameters.service != 0
+            && !places::has_free(&self.rights.places)
     }
-    enter(rights, nexus, parameters)
-}
 
-fn register_ignoring(rights: Rights, nexus: u64, parameters: Parameters) -> Decision
-    ensures { result ≡ decided RegisterIgnoring rights nexus parameters }
-{
-    let refusal = flag_refusal(parameters);
-    let Answer::Good = refusal else {
-        return Decision {
-            answer: refusal,
-            rights,
-        };
-    };
-    enter(rights, nexus, parameters)
-}
+    // The rights with other places.
+    #[tactic(auto, unfolding(rights::specs::Rights::with_places))]
+    fn with_places(&self, places: [Place; REGISTRATION_PLACES]) -> Rights
+        ensures { result ≡ with_places self.now.rights.now places }
+    {
+        Rights {
+            places,
+            ..*self.rights
+        }
+    }
 
-fn reserve(rights: Rights, nexus: u64, parameters: Parameters) -> Decision
-    ensures { result ≡ decided Reserve rights nexus parameters }
-{
-    if stranger(rights, nexus, parameters) {
-        return Decision {
-            answer: Answer::Conflict,
-            rights,
-        };
+    // The rights after a nexus gave a key, or 0.
+    #[tactic(auto, unfolding(rights::specs::Actions::registering))]
+    fn registering(&self) -> Rights
+        ensures { result ≡ registering self.now.rights.now self.now.nexus self.now.parameters.service }
+    {
+        let old = &self.rights.places;
+        let key = self.parameters.service;
+        if self.is_registered() {
+            let places = places::rekeyed(old, self.nexus, key);
+            return standing::raised(standing::settled(self.with_places(places)));
+        }
+        if key == 0 {
+            return *self.rights;
+        }
+        standing::raised(self.with_places(places::enrol(old, self.nexus, key)))
     }
-    if rights.kind == 0 {
-        let after = standing::held(rights, parameters.kind, nexus);
-        return Decision {
-            answer: Answer::Good,
-            rights: after,
-        };
-    }
-    if !standing::holds(rights, nexus) {
-        return Decision {
-            answer: Answer::Conflict,
-            rights,
-        };
-    }
-    if rights.kind == parameters.kind {
-        return Decision {
-            answer: Answer::Good,
-            rights,
-        };
-    }
-    Decision {
-        answer: Answer::Conflict,
-        rights,
-    }
-}
 
-fn release(rights: Rights, nexus: u64, parameters: Parameters) -> Decision
-    ensures { result ≡ decided Release rights nexus parameters }
-{
-    if stranger(rights, nexus, parameters) {
-        return Decision {
-            answer: Answer::Conflict,
-            rights,
-        };
+    // What both kinds of registering share, once flags and key are tested.
+    #[tactic(auto, unfolding(answers::specs::Order::first_of, answers::specs::Order::if_good_by, answers::specs::Order::refuses))]
+    fn enter(&self) -> Result<Rights, Answer>
+        ensures { result ≡ unless_refused (first (no_place if crowded self.now.rights.now self.now.nexus self.now.parameters ∷ []))
+            (registering self.now.rights.now self.now.nexus self.now.parameters.service) }
+    {
+        if self.crowded() {
+            return Err(answers::no_place());
+        }
+        Ok(self.registering())
     }
-    if !standing::holds(rights, nexus) {
-        return Decision {
-            answer: Answer::Good,
-            rights,
-        };
-    }
-    if parameters.kind == rights.kind {
-        let after = standing::ended(rights);
-        return Decision {
-            answer: Answer::Good,
-            rights: after,
-        };
-    }
-    let answer = answers::other_type();
-    Decision { answer, rights }
-}
 
-fn clear(rights: Rights, nexus: u64, parameters: Parameters) -> Decision
-    ensures { result ≡ decided Clear rights nexus parameters }
-{
-    if stranger(rights, nexus, parameters) {
-        return Decision {
-            answer: Answer::Conflict,
-            rights,
-        };
+    fn register(&self) -> Result<Rights, Answer>
+        ensures { result ≡ decided Register self.now.rights.now self.now.nexus self.now.parameters }
+    {
+        flags_allowed(self.parameters)?;
+        if !self.gives_key() {
+            return Err(Answer::Conflict);
+        }
+        self.enter()
     }
-    let old = rights.places;
-    let places = places::change_all(old, Change::Empty);
-    let after = standing::raised(standing::ended(standing::with_places(rights, places)));
-    Decision {
-        answer: Answer::Good,
-        rights: after,
-    }
-}
 
-// The rights after all with a key are removed.
-fn preempting(rights: Rights, nexus: u64, kind: u32, key: u64) -> Rights
-    ensures { result ≡ preempting rights nexus kind key }
-{
-    let old = rights.places;
-    if standing::holder_key(rights) == key {
-        let places = places::change_all(old, Change::RemoveBut(key, nexus));
-        return standing::raised(standing::held(standing::with_places(rights, places), kind, nexus));
+    fn register_ignoring(&self) -> Result<Rights, Answer>
+        ensures { result ≡ decided RegisterIgnoring self.now.rights.now self.now.nexus self.now.parameters }
+    {
+        flags_allowed(self.parameters)?;
+        self.enter()
     }
-    let places = places::change_all(old, Change::Remove(key));
-    standing::raised(standing::settled(standing::with_places(rights, places)))
-}
 
-// What PREEMPT with the key 0 decides: where all who are registered hold, the sender takes over from them.
-fn take_over(rights: Rights, nexus: u64, kind: u32) -> Decision
-    ensures { result ≡ decided_by (list_field service_key_bits if not (all_hold rights.kind) ∷ []) (taking_over rights nexus kind) rights }
-{
-    if !kinds::all_hold(rights.kind) {
-        let answer = answers::list_field(SERVICE_KEY_BYTE, 7, 64);
-        return Decision { answer, rights };
+    fn reserve(&self) -> Result<Rights, Answer>
+        ensures { result ≡ decided Reserve self.now.rights.now self.now.nexus self.now.parameters }
+    {
+        if self.by_stranger() {
+            return Err(Answer::Conflict);
+        }
+        if self.rights.kind == NO_TYPE {
+            return Ok(standing::held(*self.rights, self.parameters.kind, self.nexus));
+        }
+        if standing::holds(self.rights, self.nexus) && self.rights.kind == self.parameters.kind {
+            Ok(*self.rights)
+        } else {
+            Err(Answer::Conflict)
+        }
     }
-    let old = rights.places;
-    let places = places::change_all(old, Change::Only(nexus));
-    let alone = standing::with_places(rights, places);
-    let after = standing::raised(standing::held(alone, kind, nexus));
-    Decision {
-        answer: Answer::Good,
-        rights: after,
-    }
-}
 
-fn preempt(rights: Rights, nexus: u64, parameters: Parameters) -> Decision
-    ensures { result ≡ decided Preempt rights nexus parameters }
-{
-    if stranger(rights, nexus, parameters) {
-        return Decision {
-            answer: Answer::Conflict,
-            rights,
-        };
+    fn release(&self) -> Result<Rights, Answer>
+        ensures { result ≡ decided Release self.now.rights.now self.now.nexus self.now.parameters }
+    {
+        if self.by_stranger() {
+            return Err(Answer::Conflict);
+        }
+        if !standing::holds(self.rights, self.nexus) {
+            return Ok(*self.rights);
+        }
+        if self.parameters.kind == self.rights.kind {
+            return Ok(standing::ended(*self.rights));
+        }
+        Err(answers::other_type())
     }
-    if parameters.service == 0 {
-        return take_over(rights, nexus, parameters.kind);
+
+    // The rights with no registration and no reservation.
+    #[tactic(auto, unfolding(rights::specs::Actions::clearing))]
+    fn clearing(&self) -> Rights
+        ensures { result ≡ clearing self.now.rights.now }
+    {
+        let places = places::emptied(&self.rights.places);
+        standing::raised(standing::ended(self.with_places(places)))
     }
-    let places = rights.places;
-    if !places::has(places, Want::Keyed(parameters.service)) {
-        return Decision {
-            answer: Answer::Conflict,
-            rights,
-        };
+
+    fn clear(&self) -> Result<Rights, Answer>
+        ensures { result ≡ decided Clear self.now.rights.now self.now.nexus self.now.parameters }
+    {
+        if self.by_stranger() {
+            return Err(Answer::Conflict);
+        }
+        Ok(self.clearing())
     }
-    let after = preempting(rights, nexus, parameters.kind, parameters.service);
-    Decision {
-        answer: Answer::Good,
-        rights: after,
+
+    // The rights after all with a key are removed.
+    #[tactic(auto, unfolding(rights::specs::Actions::preempting))]
+    fn preempting(&self) -> Rights
+        ensures { result ≡ preempting self.now.rights.now self.now.nexus self.now.parameters.kind self.now.parameters.service }
+    {
+        let old = &self.rights.places;
+        let key = self.parameters.service;
+        if standing::holder_key(self.rights) == key {
+            let left = self.with_places(places::without(old, key, Some(self.nexus)));
+            return standing::raised(standing::held(left, self.parameters.kind, self.nexus));
+        }
+        let left = self.with_places(places::without(old, key, None));
+        standing::raised(standing::settled(left))
+    }
+
+    // What PREEMPT with the key 0 decides: where all who are registered hold, the sender takes over from them.
+    #[tactic(auto, unfolding(rights::specs::Actions::taking_over, answers::specs::Order::first_of, answers::specs::Order::if_good_by, answers::specs::Order::refuses, fields::specs::Bits::first_byte, fields::specs::Bits::top_bit, fields::specs::Bits::bit_count))]
+    fn take_over(&self) -> Result<Rights, Answer>
+        ensures { result ≡ unless_refused (first (list_field service_key_bits if not (all_hold self.now.rights.now.kind) ∷ []))
+            (taking_over self.now.rights.now self.now.nexus self.now.parameters.kind) }
+    {
+        if !kinds::all_hold(self.rights.kind) {
+            return Err(answers::list_field(SERVICE_KEY_BYTE, 7, 64));
+        }
+        let left = self.with_places(places::alone(&self.rights.places, self.nexus));
+        Ok(standing::raised(standing::held(left, self.parameters.kind, self.nexus)))
+    }
+
+    fn preempt(&self) -> Result<Rights, Answer>
+        ensures { result ≡ decided Preempt self.now.rights.now self.now.nexus self.now.parameters }
+    {
+        if self.by_stranger() {
+            return Err(Answer::Conflict);
+        }
+        if self.parameters.service == 0 {
+            return self.take_over();
+        }
+        if !places::is_known(&self.rights.places, self.parameters.service) {
+            return Err(Answer::Conflict);
+        }
+        Ok(self.preempting())
     }
 }

@@ -8,42 +8,38 @@ ghost use Rattle.alter.specs.Altered.{altered};
 use answers::Answer;
 use fields::numbers;
 use forms::Request;
-use rights::{Action, Decision, FLAGS_BYTE, Parameters, Rights, SERVICE_KEY_BYTE};
+use rights::{Action, FLAGS_BYTE, Parameters, Rights, SERVICE_KEY_BYTE};
 
-fn parameters_of(request: Request, list: &[u8]) -> Parameters
-    ensures { result ≡ parameters_of request list.now }
+// How long a parameter list is.
+const LIST_BYTES: usize = 24;
+
+#[tactic(auto, unfolding(store::specs::Alter::parameters_of, fields::specs::Bits::number_in))]
+fn parameters_of(request: &Request, list: &[u8]) -> Parameters
+    ensures { result ≡ parameters_of request.now list.now }
 {
-    let key = numbers::number(list, 0, 8);
-    let service = numbers::number(list, SERVICE_KEY_BYTE as usize, 8);
-    let flags = numbers::byte(list, FLAGS_BYTE as usize);
     Parameters {
         kind: request.kind,
-        key,
-        service,
-        flags,
+        key: numbers::number(list, 0, 8),
+        service: numbers::number(list, usize::from(SERVICE_KEY_BYTE), 8),
+        flags: numbers::byte(list, usize::from(FLAGS_BYTE)),
     }
 }
 
-#[tactic(auto, using(crate::proofs::AlterLaws::alter_short))]
+#[tactic(auto, unfolding(crate::specs::Altered::altered, store::specs::Alter::alter_rows, rights::specs::Actions::decided, answers::specs::Order::first_of, answers::specs::Order::if_good_by, answers::specs::Order::refuses))]
 pub fn alter(
     action: Action,
-    request: Request,
-    rights: Rights,
+    request: &Request,
+    rights: &Rights,
     nexus: u64,
     data_out: &[u8],
-) -> Decision
-    ensures { result ≡ altered action request rights nexus data_out.now }
+) -> Result<Rights, Answer>
+    ensures { result ≡ altered action request.now rights.now nexus data_out.now }
 {
-    if request.size != 24 {
-        let answer = answers::list_length();
-        return Decision { answer, rights };
+    if request.size != LIST_BYTES as u64 {
+        return Err(answers::list_length());
     }
-    if data_out.len() < 24 {
-        return Decision {
-            answer: Answer::Short,
-            rights,
-        };
+    if data_out.len() < LIST_BYTES {
+        return Err(Answer::Short);
     }
-    let parameters = parameters_of(request, data_out);
-    actions::decide(action, rights, nexus, parameters)
+    actions::decide(action, rights, nexus, parameters_of(request, data_out))
 }

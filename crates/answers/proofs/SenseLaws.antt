@@ -4,9 +4,8 @@ use mathlib.Core.Path.{◌≡◌, refl}
 use mathlib.Core.Bool.{Bool, true, false, cond}
 use mathlib.Core.List.{List}
 use Prim.Native.Nat.{ℕ, ◌≤◌}
-use native.Mathlib.Omega.{arith}
 use lib.Dec.{lit≤, eqb, leb}
-use lib.ListN.{length, take}
+use lib.ListN.{length}
 use Rattle.fields.specs.Field.{bytes}
 use Rattle.answers.specs.declared.Refusal.{Refusal}
 use Rattle.answers.specs.declared.Codes.{Codes}
@@ -14,20 +13,6 @@ use Rattle.answers.specs.declared.sense.Detail.{Detail}
 use Rattle.answers.specs.declared.sense.Detail.TheVariants.{Nothing, Pointer, Address}
 use Rattle.answers.specs.Sense.{descriptor, fixed_most, descriptor_most, sense_bytes, detail_of, fixed_bytes, fixed_with, header_bytes, pointer_descriptor, address_descriptor, descriptor_of, described_with, sense_data}
 use Rattle.answers.specs.Answers.{codes_of}
-
--- ---- what a buffer that is long enough has room for
-
-either_room : (b : Bool) (n : ℕ) → cond b descriptor_most fixed_most ≤ n → fixed_most ≤ n
-either_room true n h = omega arith
-either_room false n h = h
-
-pub fixed_room : (format n : ℕ) → sense_bytes format ≤ n → fixed_most ≤ n
-unfolding sense_bytes
-fixed_room format n h = either_room (eqb format descriptor) n h
-
-pub descriptor_room : (format n : ℕ) → format ≡ descriptor → sense_bytes format ≤ n → descriptor_most ≤ n
-unfolding sense_bytes
-descriptor_room format n e = rw e (λ h. h)
 
 -- ---- fixed format has 18 bytes
 
@@ -40,16 +25,6 @@ unfolding fixed_with fixed_bytes bytes
 length_fixed k Nothing = refl
 length_fixed k (Pointer mark at) = refl
 length_fixed k (Address address) = fixed_two (leb address 0xFFFF_FFFF) _ _ refl refl
-
-take_two : (b : Bool) (x y : List ℕ) → take fixed_most x ≡ x → take fixed_most y ≡ y → take fixed_most (cond b x y) ≡ cond b x y
-take_two true x y e h = e
-take_two false x y e h = h
-
-pub take_fixed : (k : Codes) (d : Detail) → take fixed_most (fixed_with k d) ≡ fixed_with k d
-unfolding fixed_with fixed_bytes bytes
-take_fixed k Nothing = refl
-take_fixed k (Pointer mark at) = refl
-take_fixed k (Address address) = take_two (leb address 0xFFFF_FFFF) _ _ refl refl
 
 -- ---- what is written never needs more than the format asks for
 

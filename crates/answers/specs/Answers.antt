@@ -1,14 +1,12 @@
 -- The answers: what document 01 gives each as number, status, sense key and codes.
 -- Assumes nothing.
-use Rattle.std.specs.Prelude.{Bool, ℕ, eqb}
+use Rattle.std.specs.Prelude.{Bool, ℕ, eqb, Option, Some, None}
 use Rattle.fields.specs.Bits.{Bits, first_byte, top_bit, bit_count}
 use Rattle.answers.specs.declared.Refusal.{Refusal}
 use Rattle.answers.specs.declared.Refusal.TheVariants.{NotListed, InvalidField, OutOfRange, ListLength, ListField, NoPlace, OtherType, NoRoom, RegistrationsPreempted, ReservationsPreempted, ReservationsReleased}
 use Rattle.answers.specs.declared.Codes.{Codes}
 use Rattle.answers.specs.declared.Answer.{Answer}
 use Rattle.answers.specs.declared.Answer.TheVariants.{Good, Refused, Conflict, Unusable, Short}
-use Rattle.answers.specs.declared.Status.{Status}
-use Rattle.answers.specs.declared.Status.TheVariants.{Given, Nothing}
 
 -- ---- the table of the answers that come with sense
 
@@ -79,9 +77,9 @@ unfoldable pub is_attention : Answer → Bool
 is_attention a = eqb (number_of a) 13
 
 -- the status byte of each answer: 00h, 02h, 18h, or none
-unfoldable pub status_of : Answer → Status
-status_of Good = Given 0x00
-status_of (Refused refusal) = Given 0x02
-status_of Conflict = Given 0x18
-status_of Unusable = Nothing
-status_of Short = Nothing
+unfoldable pub status_of : Answer → Option ℕ
+status_of Good = Some 0x00
+status_of (Refused refusal) = Some 0x02
+status_of Conflict = Some 0x18
+status_of Unusable = None
+status_of Short = None

@@ -37,6 +37,8 @@ pub struct Codes {
     pub ascq: u8,
 }
 
+// What a call is answered. GOOD is one of the answers and no `Ok`, and the case that refuses holds what its sense is made of: that form is named for
+// the answers, and the theorems speak of all five.
 #[derive(Clone, Copy)]
 pub enum Answer {
     Good,
@@ -44,13 +46,6 @@ pub enum Answer {
     Conflict,
     Unusable,
     Short,
-}
-
-// The status byte that a transport would carry, where there is one.
-#[derive(Clone, Copy)]
-pub enum Status {
-    Given(u8),
-    Nothing,
 }
 
 // 1: operation code not listed.
@@ -110,23 +105,17 @@ pub fn no_room(address: u64) -> Answer
 }
 
 // The number of each answer.
-pub fn number_of(a: Answer) -> u64
-    ensures { result ≡ number_of a }
+#[tactic(auto, unfolding(crate::specs::Answers::number_of))]
+pub fn number_of(answer: Answer) -> u64
+    ensures { result ≡ number_of answer }
 {
-    match a {
+    match answer {
         Answer::Good => 0,
-        Answer::Refused(refusal) => number_in(refusal),
+        Answer::Refused(refusal) => codes_of(refusal).number,
         Answer::Conflict => 10,
         Answer::Unusable => 11,
         Answer::Short => 12,
     }
-}
-
-fn number_in(refusal: Refusal) -> u64
-    ensures { result ≡ (codes_of refusal).number }
-{
-    let codes = codes_of(refusal);
-    codes.number
 }
 
 fn row(number: u64, key: u8, asc: u8, ascq: u8) -> Codes
@@ -141,33 +130,34 @@ fn row(number: u64, key: u8, asc: u8, ascq: u8) -> Codes
 }
 
 // The table of answers that come with sense.
+#[tactic(auto, unfolding(crate::specs::Answers::codes_of))]
 pub fn codes_of(refusal: Refusal) -> Codes
     ensures { result ≡ codes_of refusal }
 {
     match refusal {
         Refusal::NotListed => row(1, 0x05, 0x20, 0x00),
-        Refusal::InvalidField(_, _, _) => row(2, 0x05, 0x24, 0x00),
-        Refusal::OutOfRange(_) => row(3, 0x05, 0x21, 0x00),
+        Refusal::InvalidField(..) => row(2, 0x05, 0x24, 0x00),
+        Refusal::OutOfRange(..) => row(3, 0x05, 0x21, 0x00),
         Refusal::ListLength => row(4, 0x05, 0x1A, 0x00),
-        Refusal::ListField(_, _, _) => row(5, 0x05, 0x26, 0x00),
+        Refusal::ListField(..) => row(5, 0x05, 0x26, 0x00),
         Refusal::NoPlace => row(6, 0x05, 0x55, 0x04),
         Refusal::OtherType => row(7, 0x05, 0x26, 0x04),
-        Refusal::NoRoom(_) => row(8, 0x07, 0x27, 0x07),
+        Refusal::NoRoom(..) => row(8, 0x07, 0x27, 0x07),
         Refusal::RegistrationsPreempted => row(13, 0x06, 0x2A, 0x05),
         Refusal::ReservationsPreempted => row(13, 0x06, 0x2A, 0x03),
         Refusal::ReservationsReleased => row(13, 0x06, 0x2A, 0x04),
     }
 }
 
-// The status of each answer.
-pub fn status_of(a: Answer) -> Status
-    ensures { result ≡ status_of a }
+// The status byte that a transport would carry, where the answer has one.
+#[tactic(auto, unfolding(crate::specs::Answers::status_of))]
+pub fn status_of(answer: Answer) -> Option<u8>
+    ensures { result ≡ status_of answer }
 {
-    match a {
-        Answer::Good => Status::Given(0x00),
-        Answer::Refused(_) => Status::Given(0x02),
-        Answer::Conflict => Status::Given(0x18),
-        Answer::Unusable => Status::Nothing,
-        Answer::Short => Status::Nothing,
+    match answer {
+        Answer::Good => Some(0x00),
+        Answer::Refused(_) => Some(0x02),
+        Answer::Conflict => Some(0x18),
+        Answer::Unusable | Answer::Short => None,
     }
 }

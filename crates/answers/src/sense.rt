@@ -7,7 +7,8 @@ ghost use Rattle.answers.specs.Sense.{format_ok, sense_bytes, descriptor_most, d
 use crate::{Answer, Codes, Refusal, codes_of};
 use fields::{bytes, numbers};
 
-// The formats, by their response codes.
+// The formats, by their response codes. A format is a number and no enum: C hands one in, the theorems' `Store.format` is that number, and
+// `sense_bytes` and `put_refusal` promise what they write for every number.
 pub const FIXED: u64 = 0x70;
 
 pub const DESCRIPTOR: u64 = 0x72;
@@ -30,122 +31,100 @@ pub enum Detail {
 }
 
 // Whether a number is that of a format.
+#[tactic(auto, unfolding(crate::specs::Sense::format_ok))]
 pub fn format_ok(format: u64) -> bool
     ensures { result ≡ format_ok format }
 {
-    if format == FIXED {
-        return true;
-    }
-    format == DESCRIPTOR
+    matches!(format, FIXED | DESCRIPTOR)
 }
 
 // How many bytes a sense buffer must have.
+#[tactic(auto, unfolding(crate::specs::Sense::sense_bytes))]
 pub fn sense_bytes(format: u64) -> usize
     ensures { result ≡ sense_bytes format }
 {
     if format == DESCRIPTOR {
-        return DESCRIPTOR_BYTES;
+        DESCRIPTOR_BYTES
+    } else {
+        FIXED_BYTES
     }
-    FIXED_BYTES
 }
 
+#[tactic(auto, unfolding(crate::specs::Sense::detail_of))]
 fn detail_of(refusal: Refusal) -> Detail
     ensures { result ≡ detail_of refusal }
 {
     match refusal {
-        Refusal::NotListed => Detail::Nothing,
-        Refusal::InvalidField(byte, bit, _) => Detail::Pointer(0xC8 + bit % 8, byte as u16),
-        Refusal::OutOfRange(address) => Detail::Address(address),
-        Refusal::ListLength => Detail::Nothing,
-        Refusal::ListField(byte, bit, _) => Detail::Pointer(0x88 + bit % 8, byte as u16),
-        Refusal::NoPlace => Detail::Nothing,
-        Refusal::OtherType => Detail::Nothing,
-        Refusal::NoRoom(address) => Detail::Address(address),
-        Refusal::RegistrationsPreempted => Detail::Nothing,
-        Refusal::ReservationsPreempted => Detail::Nothing,
-        Refusal::ReservationsReleased => Detail::Nothing,
+        Refusal::InvalidField(byte, bit, _) => Detail::Pointer(0xC8 + bit % 8, u16::from(byte)),
+        Refusal::ListField(byte, bit, _) => Detail::Pointer(0x88 + bit % 8, u16::from(byte)),
+        Refusal::OutOfRange(address) | Refusal::NoRoom(address) => Detail::Address(address),
+        Refusal::NotListed
+        | Refusal::ListLength
+        | Refusal::NoPlace
+        | Refusal::OtherType
+        | Refusal::RegistrationsPreempted
+        | Refusal::ReservationsPreempted
+        | Refusal::ReservationsReleased => Detail::Nothing,
     }
 }
 
 // ---- fixed format
 
+#[tactic(auto, unfolding(crate::specs::Sense::fixed_bytes, fields::specs::Field::bytes))]
 fn fixed_bytes(response: u8, codes: Codes, address: u32, mark: u8, byte: u16) -> [u8; FIXED_BYTES]
     ensures { result ≡ fixed_bytes response codes address mark byte }
 {
-    let a = numbers::bytes4(address);
+    let a = numbers::bytes::<4>(u64::from(address));
+    let at = numbers::bytes::<2>(u64::from(byte));
     [
-        response,
-        0,
-        codes.key,
-        a[0],
-        a[1],
-        a[2],
-        a[3],
-        0x0A,
-        0,
-        0,
-        0,
-        0,
-        codes.asc,
-        codes.ascq,
-        0,
-        mark,
-        (byte / 256 % 256) as u8,
-        (byte % 256) as u8,
+        response, 0, codes.key, a[0], a[1], a[2], a[3], 0x0A, 0, 0, 0, 0, codes.asc, codes.ascq, 0,
+        mark, at[0], at[1],
     ]
 }
 
 // An address that does not fit is left out whole.
+#[tactic(auto, unfolding(crate::specs::Sense::fixed_with))]
 fn fixed_with(codes: Codes, detail: Detail) -> [u8; FIXED_BYTES]
     ensures { result ≡ fixed_with codes detail }
 {
     match detail {
         Detail::Nothing => fixed_bytes(0x70, codes, 0, 0, 0),
         Detail::Pointer(mark, byte) => fixed_bytes(0x70, codes, 0, mark, byte),
-        Detail::Address(address) => {
-            if MOST_SHOWN < address {
-                return fixed_bytes(0x70, codes, 0, 0, 0);
-            }
-            fixed_bytes(0xF0, codes, address as u32, 0, 0)
-        }
+        Detail::Address(address) if address <= MOST_SHOWN => fixed_bytes(
+            0xF0,
+            codes,
+            address as u32,
+            0,
+            0,
+        ),
+        Detail::Address(_) => fixed_bytes(0x70, codes, 0, 0, 0),
     }
 }
 
 // ---- descriptor format
 
+#[tactic(auto, unfolding(crate::specs::Sense::described_with, crate::specs::Sense::header_bytes, crate::specs::Sense::descriptor_of))]
 fn header(codes: Codes) -> [u8; 8]
     ensures { result ≡ described_with codes Nothing }
 {
     [0x72, codes.key, codes.asc, codes.ascq, 0, 0, 0, 0]
 }
 
+#[tactic(auto, unfolding(crate::specs::Sense::described_with, crate::specs::Sense::header_bytes, crate::specs::Sense::descriptor_of, crate::specs::Sense::pointer_descriptor, fields::specs::Field::bytes))]
 fn pointing(codes: Codes, mark: u8, byte: u16) -> [u8; 16]
     ensures { result ≡ described_with codes (Pointer mark byte) }
 {
+    let at = numbers::bytes::<2>(u64::from(byte));
     [
-        0x72,
-        codes.key,
-        codes.asc,
-        codes.ascq,
-        0,
-        0,
-        0,
-        8,
-        0x02,
-        0x06,
-        0,
-        0,
-        mark,
-        (byte / 256 % 256) as u8,
-        (byte % 256) as u8,
-        0,
+        0x72, codes.key, codes.asc, codes.ascq, 0, 0, 0, 8, 0x02, 0x06, 0, 0, mark, at[0], at[1], 0,
     ]
 }
 
+#[tactic(auto, unfolding(crate::specs::Sense::described_with, crate::specs::Sense::header_bytes, crate::specs::Sense::descriptor_of, crate::specs::Sense::address_descriptor, fields::specs::Field::bytes))]
 fn addressed(codes: Codes, address: u64) -> [u8; DESCRIPTOR_BYTES]
     ensures { result ≡ described_with codes (Address address) }
 {
-    let a = numbers::bytes8(address);
+    let a = numbers::bytes::<8>(address);
     [
         0x72, codes.key, codes.asc, codes.ascq, 0, 0, 0, 12, 0x00, 0x0A, 0x80, 0, a[0], a[1], a[2],
         a[3], a[4], a[5], a[6], a[7],
@@ -158,24 +137,16 @@ fn put_described(codes: Codes, detail: Detail, sense: &mut [u8])
     ensures { sense.new ≡ put sense.old 0 (described_with codes detail) }
 {
     match detail {
-        Detail::Nothing => {
-            let told = header(codes);
-            bytes::put(sense, &told, 8);
-        }
-        Detail::Pointer(mark, byte) => {
-            let told = pointing(codes, mark, byte);
-            bytes::put(sense, &told, 16);
-        }
-        Detail::Address(address) => {
-            let told = addressed(codes, address);
-            bytes::put(sense, &told, DESCRIPTOR_BYTES);
-        }
+        Detail::Nothing => bytes::put(sense, &header(codes)),
+        Detail::Pointer(mark, byte) => bytes::put(sense, &pointing(codes, mark, byte)),
+        Detail::Address(address) => bytes::put(sense, &addressed(codes, address)),
     }
 }
 
 // ---- either
 
 // The sense of a refusal.
+#[tactic(auto, unfolding(crate::specs::Sense::sense_bytes, crate::specs::Sense::sense_data))]
 pub fn put_refusal(format: u64, refusal: Refusal, sense: &mut [u8])
     requires { sense_bytes format ≤ length sense.old }
     ensures { sense.new ≡ put sense.old 0 (sense_data format refusal) }
@@ -185,21 +156,17 @@ pub fn put_refusal(format: u64, refusal: Refusal, sense: &mut [u8])
     if format == DESCRIPTOR {
         put_described(codes, detail, sense);
     } else {
-        let told = fixed_with(codes, detail);
-        bytes::put(sense, &told, FIXED_BYTES);
+        bytes::put(sense, &fixed_with(codes, detail));
     }
 }
 
 // Puts the sense of a refusal; any other answer leaves the buffer.
+#[tactic(auto, unfolding(crate::specs::Sense::sense_after))]
 pub fn put_sense(format: u64, answer: Answer, sense: &mut [u8])
     requires { sense_bytes format ≤ length sense.old }
     ensures { sense.new ≡ sense_after format answer sense.old }
 {
-    match answer {
-        Answer::Refused(refusal) => put_refusal(format, refusal, sense),
-        Answer::Good => {}
-        Answer::Conflict => {}
-        Answer::Unusable => {}
-        Answer::Short => {}
+    if let Answer::Refused(refusal) = answer {
+        put_refusal(format, refusal, sense);
     }
 }

@@ -2,24 +2,17 @@
 -- every element so far. Assumes nothing.
 use mathlib.Core.Path.{◌≡◌, refl, sym, ap, ◌∙◌}
 use mathlib.Core.Bool.{Bool, true, false, ◌&&◌}
-use mathlib.Core.List.{List, [], ◌∷◌}
-use Prim.Native.Nat.{ℕ, zero, suc, ◌+◌, ◌≤◌, ◌<◌}
+use mathlib.Core.List.{List, [], ◌∷◌, ◌++◌}
+use Rattle.std.proofs.Math.Bool.{and_assoc}
+use Prim.Native.Nat.{ℕ, zero, suc, ◌+◌, ◌<◌}
 use native.Mathlib.Numerals.{add-one}
 use native.Mathlib.Omega.{arith}
 use lib.Dec.{leb}
-use lib.ListN.{length, get_or, set, drop}
-use lib.Seq.{drop-cons, drop-length}
+use lib.ListN.{length, get_or, set}
 use Rattle.rights.specs.declared.Rights.{Rights}
 use Rattle.rights.specs.declared.Action.{Action}
 use Rattle.rights.specs.Attentions.{each_ok}
 use Rattle.rights.specs.Notices.{renewed, notified_from, notified}
-
--- ---- what is not there is nothing
-
-pub beyond : (xs : List ℕ) (i d : ℕ) → length xs ≤ i → get_or xs i d ≡ d
-beyond [] i d h = refl
-beyond (x ∷ xs) zero d h = absurd (omega arith)
-beyond (x ∷ xs) (suc i) d h = beyond xs i d (omega arith)
 
 -- ---- what is sent
 
@@ -72,35 +65,17 @@ module _ (a : Action) (before after : Rights) (n : ℕ) where
   unfolding told notified
   told_all k xs e = rw (← e) (first_all 0 xs)
 
--- ---- each is one that can wait: the first i of them already
+-- ---- each is one that can wait
 
-module _ (xs : List ℕ) (i : ℕ) where
-  each_not : i < length xs → leb (get_or xs i 0) 3 ≡ false → each_ok (drop i xs) ≡ false
-  unfolding each_ok
-  each_not h e = rw (drop-cons xs i 0 h, e)
+each_push : (xs : List ℕ) (x : ℕ) → each_ok (xs ++ x ∷ []) ≡ (each_ok xs && leb x 3)
+unfolding each_ok
+each_push [] x = go (leb x 3)
+  where
+    go : (b : Bool) → (b && true) ≡ b
+    go true = refl
+    go false = refl
+each_push (y ∷ ys) x = ap (λ (b : Bool). leb y 3 && b) (each_push ys x) ∙ sym (and_assoc (leb y 3) (each_ok ys) (leb x 3))
 
-  each_on : i < length xs → leb (get_or xs i 0) 3 ≡ true → each_ok (drop i xs) ≡ each_ok (drop (i + 1) xs)
-  unfolding each_ok
-  each_on h e = rw (drop-cons xs i 0 h, e, add-one)
-
-  each_end : length xs ≡ i → each_ok (drop i xs) ≡ true
-  unfolding each_ok
-  each_end h = rw (← h, drop-length)
-
-and_false : (b : Bool) → (b && false) ≡ false
-and_false true = refl
-and_false false = refl
-
-and_true : (b : Bool) → (b && true) ≡ b
-and_true true = refl
-and_true false = refl
-
-module _ (xs : List ℕ) (i : ℕ) (old : Bool) (inv : (old && each_ok (drop i xs)) ≡ each_ok xs) where
-  pub every_stops : (new : Bool) → i < length xs → leb (get_or xs i 0) 3 ≡ false → new ≡ false → (new && each_ok (drop (i + 1) xs)) ≡ each_ok xs
-  every_stops new h e n = rw n (sym (and_false old) ∙ ap (λ (b : Bool). old && b) (sym (each_not xs i h e)) ∙ inv)
-
-  pub every_goes : (new : Bool) → i < length xs → leb (get_or xs i 0) 3 ≡ true → new ≡ old → (new && each_ok (drop (i + 1) xs)) ≡ each_ok xs
-  every_goes new h e n = rw n (ap (λ (b : Bool). old && b) (sym (each_on xs i h e)) ∙ inv)
-
-  pub every_end : length xs ≡ i → old ≡ each_ok xs
-  every_end h = sym (and_true old) ∙ ap (λ (b : Bool). old && b) (sym (each_end xs i h)) ∙ inv
+-- one more is looked at
+pub each_more : (xs : List ℕ) (x : ℕ) (old new : Bool) → old ≡ each_ok xs → new ≡ (old && leb x 3) → new ≡ each_ok (xs ++ x ∷ [])
+each_more xs x old new e n = n ∙ ap (λ (b : Bool). b && leb x 3) e ∙ sym (each_push xs x)

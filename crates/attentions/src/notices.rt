@@ -1,118 +1,116 @@
 // Notices: what an action has wait for others, by the rights that it found and those that it left.
 ghost use Rattle.std.specs.Prelude.{◌≡◌};
-ghost use Rattle.rights.specs.Places.{registered};
 ghost use Rattle.rights.specs.Notices.{removed, for_registrants, released, release_notice, notice, renewed, notified};
 
 use reservations::places;
-use reservations::places::Want;
 use rights::{
-    Action, NEXUSES, NO_ATTENTION, REGISTRATIONS_PREEMPTED, RESERVATIONS_PREEMPTED,
-    RESERVATIONS_RELEASED, Rights,
+    Action, EXCLUSIVE_ACCESS_ALL_REGISTRANTS, EXCLUSIVE_ACCESS_REGISTRANTS_ONLY, NEXUSES,
+    NO_ATTENTION, REGISTRATIONS_PREEMPTED, RESERVATIONS_PREEMPTED, RESERVATIONS_RELEASED, Rights,
+    WRITE_EXCLUSIVE_ALL_REGISTRANTS, WRITE_EXCLUSIVE_REGISTRANTS_ONLY,
 };
 
-// Whether a nexus is registered.
-fn is_registered(rights: Rights, nexus: u64) -> bool
-    ensures { result ≡ registered nexus rights.places }
-{
-    let places = rights.places;
-    places::has(places, Want::Of(nexus))
-}
-
-// Whether the registration of a nexus is removed.
-fn removed(before: Rights, after: Rights, nexus: u64) -> bool
-    ensures { result ≡ removed before after nexus }
-{
-    if !is_registered(before, nexus) {
-        return false;
-    }
-    !is_registered(after, nexus)
-}
-
 // Whether a type is for registrants, only or all.
+#[tactic(auto, unfolding(rights::specs::Notices::for_registrants, rights::specs::Rights::is_one_of))]
 fn for_registrants(kind: u32) -> bool
     ensures { result ≡ for_registrants kind }
 {
-    match kind {
-        5 => true,
-        6 => true,
-        7 => true,
-        8 => true,
-        0..=4 | 9..=0xFFFF_FFFF => false,
-    }
+    matches!(
+        kind,
+        WRITE_EXCLUSIVE_REGISTRANTS_ONLY
+            | EXCLUSIVE_ACCESS_REGISTRANTS_ONLY
+            | WRITE_EXCLUSIVE_ALL_REGISTRANTS
+            | EXCLUSIVE_ACCESS_ALL_REGISTRANTS
+    )
 }
 
-// Whether a reservation for registrants has ended, or changed its type.
-fn released(before: Rights, after: Rights) -> bool
-    ensures { result ≡ released before after }
-{
-    if !for_registrants(before.kind) {
-        return false;
-    }
-    !(after.kind == before.kind)
+// An action of a sender: the rights that it found, and those that it left.
+#[derive(Clone, Copy)]
+struct Deed<'a> {
+    action: Action,
+    before: &'a Rights,
+    after: &'a Rights,
+    sender: u64,
 }
 
-// What a nexus that stays registered is told where it has.
-fn release_notice(before: Rights, after: Rights, nexus: u64) -> u8
-    ensures { result ≡ release_notice before after nexus }
-{
-    if !released(before, after) {
-        return NO_ATTENTION;
+impl Deed<'_> {
+    // Whether the registration of a nexus is removed.
+    #[tactic(auto, unfolding(rights::specs::Notices::removed))]
+    fn removes(&self, nexus: u64) -> bool
+        ensures { result ≡ removed self.now.before.now self.now.after.now nexus }
+    {
+        places::is_registered(&self.before.places, nexus)
+            && !places::is_registered(&self.after.places, nexus)
     }
-    if is_registered(after, nexus) {
-        RESERVATIONS_RELEASED
-    } else {
-        NO_ATTENTION
-    }
-}
 
-// What a nexus is to be told of another's action.
-fn notice(action: Action, before: Rights, after: Rights, nexus: u64) -> u8
-    ensures { result ≡ notice action before after nexus }
-{
-    match action {
-        Action::Register => release_notice(before, after, nexus),
-        Action::Reserve => NO_ATTENTION,
-        Action::Release => release_notice(before, after, nexus),
-        Action::Clear => if removed(before, after, nexus) {
-            RESERVATIONS_PREEMPTED
+    // Whether a reservation for registrants has ended, or changed its type.
+    #[tactic(auto, unfolding(rights::specs::Notices::released))]
+    fn releases(&self) -> bool
+        ensures { result ≡ released self.now.before.now self.now.after.now }
+    {
+        for_registrants(self.before.kind) && self.after.kind != self.before.kind
+    }
+
+    // What a nexus that stays registered is told where it has.
+    #[tactic(auto, unfolding(rights::specs::Notices::release_notice))]
+    fn release_notice(&self, nexus: u64) -> u8
+        ensures { result ≡ release_notice self.now.before.now self.now.after.now nexus }
+    {
+        if self.releases() && places::is_registered(&self.after.places, nexus) {
+            RESERVATIONS_RELEASED
         } else {
             NO_ATTENTION
-        },
-        Action::Preempt => if removed(before, after, nexus) {
-            REGISTRATIONS_PREEMPTED
-        } else {
-            release_notice(before, after, nexus)
-        },
-        Action::RegisterIgnoring => release_notice(before, after, nexus),
+        }
     }
-}
 
-// What waits for a nexus after an action of the sender, where `old` waited before.
-fn renewed(action: Action, before: Rights, after: Rights, sender: u64, nexus: u64, old: u8) -> u8
-    ensures { result ≡ renewed action before after sender nexus old }
-{
-    if nexus == sender {
-        return old;
+    // What a nexus is to be told of another's action.
+    #[tactic(auto, unfolding(rights::specs::Notices::notice))]
+    fn notice(&self, nexus: u64) -> u8
+        ensures { result ≡ notice self.now.action self.now.before.now self.now.after.now nexus }
+    {
+        match self.action {
+            Action::Register | Action::RegisterIgnoring | Action::Release => {
+                self.release_notice(nexus)
+            }
+            Action::Reserve => NO_ATTENTION,
+            Action::Clear if self.removes(nexus) => RESERVATIONS_PREEMPTED,
+            Action::Clear => NO_ATTENTION,
+            Action::Preempt if self.removes(nexus) => REGISTRATIONS_PREEMPTED,
+            Action::Preempt => self.release_notice(nexus),
+        }
     }
-    let new = notice(action, before, after, nexus);
-    if new == NO_ATTENTION { old } else { new }
+
+    // What waits for a nexus after the action, where `old` waited before.
+    #[tactic(auto, unfolding(rights::specs::Notices::renewed))]
+    fn renewed(&self, nexus: u64, old: u8) -> u8
+        ensures { result ≡ renewed self.now.action self.now.before.now self.now.after.now self.now.sender nexus old }
+    {
+        if nexus == self.sender {
+            return old;
+        }
+        let new = self.notice(nexus);
+        if new == NO_ATTENTION { old } else { new }
+    }
 }
 
 // What waits for each after an action of the sender.
 pub fn send(
     action: Action,
-    before: Rights,
-    after: Rights,
+    before: &Rights,
+    after: &Rights,
     sender: u64,
     attentions: [u8; NEXUSES],
 ) -> [u8; NEXUSES]
-    ensures { result ≡ notified action before after sender attentions }
+    ensures { result ≡ notified action before.now after.now sender attentions }
 {
+    let deed = Deed {
+        action,
+        before,
+        after,
+        sender,
+    };
     let mut all = attentions;
-    let mut i: usize = 0;
-    while i < NEXUSES {
-        all[i] = renewed(action, before, after, sender, i as u64, all[i]);
-        i = i + 1;
+    for nexus in 0..NEXUSES {
+        all[nexus] = deed.renewed(nexus as u64, all[nexus]);
     }
     all
 }

@@ -1,13 +1,13 @@
 -- The pass over the slots by which `sound` is proved: the slots passed are in chains, one for each bucket, so that a slot which
 -- names a block again is found in the chain of its bucket. What a bucket is does not matter, only that a number has one.
 -- Assumes nothing.
-use mathlib.Core.Path.{◌≡◌, refl, sym, ap, ◌∙◌}
+use mathlib.Core.Path.{◌≡◌, refl, sym, ◌∙◌}
 use mathlib.Core.Bool.{true, false}
 use mathlib.Core.List.{List}
 use mathlib.Core.Logic.{◌≢◌}
 use Prim.Native.Nat.{ℕ, zero, suc, ◌+◌, ◌-◌, ◌<◌, ◌≤◌}
 use native.Mathlib.Omega.{arith}
-use lib.Dec.{T, T_not, ltb, ltb→lt, nltb→le}
+use lib.Dec.{T, T_not}
 use lib.ListN.{length, get_or, take, set, replicate, length-set, length-replicate, get_or-replicate, get_or-eq_default}
 use lib.Seq.{get_or-take, length-take-le, get_or-set_same, get_or-set_other}
 use borrow.Author.Count.{below_more}
@@ -49,45 +49,8 @@ pub record Walked (xs : List ℕ) (x i link : ℕ) : Type 0 where
   pub own : link ≢ 0 → bucket_of (get_or xs (link - 1) 0) ≡ bucket_of x
   pub none : (k : ℕ) → link ≤ k → k < i → get_or xs k 0 ≢ x
 
--- slots of another bucket do not name x
-other : (xs : List ℕ) (x i link : ℕ) → x ≢ 0 → Last xs (bucket_of x) i link → (k : ℕ) → link ≤ k → k < i → get_or xs k 0 ≢ x
-other xs x i link d l k h u e = l.none k h u (λ z. d (sym e ∙ z)) (ap bucket_of e)
-
 module _ {xs earlier : List ℕ} {link i : ℕ} (c : Chained xs earlier link i) where
-  pub walk_start : Walked xs (get_or xs i 0) i link
-  walk_start =
-      let l = c.last in
-      record { below = l.below; used = l.used; own = l.own; none = other xs (get_or xs i 0) i link c.used l }
-
   module _ {at : ℕ} (w : Walked xs (get_or xs i 0) i at) where
-    pub walk_in : 0 < at → at - 1 < length xs
-    walk_in p = let h = w.below in let t = c.there in omega arith
-
-    next : 0 < at → Last xs (bucket_of (get_or xs i 0)) (at - 1) (get_or earlier (at - 1) 0)
-    next p =
-        let h = w.below in
-        let z : at ≢ 0 = λ e. omega arith in
-        rw (w.own z) at (c.linked.each (at - 1) (omega arith) (w.used z))
-
-    pub walk_less : 0 < at → get_or earlier (at - 1) 0 < at
-    walk_less p = let h = (next p).below in omega arith
-
-    -- a turn: the slot of the link does not name the block, and its own link is next
-    pub walk_on : 0 < at → get_or xs (at - 1) 0 ≢ get_or xs i 0 → Walked xs (get_or xs i 0) i (get_or earlier (at - 1) 0)
-    walk_on p d =
-        let h = w.below in
-        let l = next p in
-        let b = l.below in
-        record {
-          below = omega arith;
-          used = l.used;
-          own = l.own;
-          none = λ k u v. test (ltb k (at - 1))
-              (λ t. other xs (get_or xs i 0) (at - 1) (get_or earlier (at - 1) 0) c.used l k u (ltb→lt k (at - 1) t))
-              (λ t. let s = nltb→le k (at - 1) t in by_equal k (at - 1) (λ q. get_or xs k 0 ≢ get_or xs i 0)
-              (λ e. rw e d) (λ e. w.none k (omega arith) v));
-        }
-
     pub walk_found : 0 < at → get_or xs (at - 1) 0 ≡ get_or xs i 0 → has (get_or xs i 0) (take i xs) ≡ true
     walk_found p e =
         let h = w.below in

@@ -2,19 +2,23 @@
 // One byte more than the longest good sheet is read, so that a longer one is seen to be so.
 #![tactic(auto)]
 
-ghost use Rattle.std.specs.Prelude.{◌≤◌, IfOk, length};
+ghost use Rattle.std.specs.Prelude.{◌≡◌, ◌⊎◌, ◌≤◌, IfOk, length, take};
+ghost use Rattle.std.specs.Io.KnownBytes.{Consumes, IsAtEnd};
 
 use std::io::{self, Read, Write};
 
 // Fills the buffer as far as the input goes, and says how far. Each read gives a byte at least, or there are no more.
-fn read_full(input: &mut impl Read, buffer: &mut [u8]) -> io::Result<usize>
-    ensures { IfOk result (λ n. n ≤ length buffer.old) }
+fn read_full<R: Read>(input: &mut R, buffer: &mut [u8]) -> io::Result<usize>
+    ensures within { IfOk result (λ n. n ≤ length buffer.old) }
+    ensures bytes { IfOk result (λ n. Consumes (R.remaining input.old) (R.remaining input.new) (take n buffer.new)) }
+    ensures all { IfOk result (λ n. (n ≡ length buffer.old) ⊎ IsAtEnd (R.remaining input.new)) }
 {
-    let mut n: usize = 0;
+    let mut n = 0;
+    // So many reads at most, and no `loop`: so it ends.
     for _ in 0..buffer.len() {
         let more = input.read(&mut buffer[n..])?;
         if more == 0 {
-            break;
+            return Ok(n);
         }
         n += more;
     }
@@ -24,7 +28,6 @@ fn read_full(input: &mut impl Read, buffer: &mut [u8]) -> io::Result<usize>
 fn main(rt: HostRuntime) -> io::Result<()> {
     let mut buffer = [0u8; contents::MOST_BYTES + 1];
     let n = read_full(&mut rt.stdin(), &mut buffer)?;
-    let mut out = [0u8; sheet::OUT];
-    let end = sheet::run(&buffer[..n], &mut out);
-    rt.stdout().write_all(&out[..end])
+    let page = sheet::run(&buffer[..n]);
+    rt.stdout().write_all(page.as_slice())
 }

@@ -1,4 +1,2 @@
-pub mod BlockLaws
 pub mod SameLaws
 pub mod StatusLaws
-pub mod MoveLaws

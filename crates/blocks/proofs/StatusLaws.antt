@@ -1,40 +1,28 @@
--- GET LBA STATUS by the ways through its rows.
+-- GET LBA STATUS: the page that is put together is told, cut.
 -- Assumes nothing.
 use mathlib.Core.Path.{◌≡◌, sym, ap, ◌∙◌}
 use mathlib.Core.List.{List}
-use Prim.Native.Nat.{ℕ, ◌≤◌, ◌<◌}
+use Prim.Native.Nat.{ℕ, ◌<◌}
 use native.Mathlib.Omega.{arith}
 use lib.ListN.{length, take}
 use lib.Seq.{take-append_seam}
-use borrow.Author.Tests.{le-leb, lt-leb}
+use borrow.Author.Tests.{lt-leb}
 use Rattle.fields.specs.Bytes.{put}
-use Rattle.fields.proofs.BytesLaws.{put_front, length_put}
+use Rattle.fields.proofs.BytesLaws.{put_front}
 use Rattle.answers.specs.declared.Answer.{Answer}
 use Rattle.answers.specs.Answers.{out_of_range}
-use Rattle.answers.specs.Order.{refuses}
-use Rattle.answers.proofs.OrderLaws.{row_pass, row_stop}
+use Rattle.answers.proofs.OrderLaws.{row_pass}
 use Rattle.runs.specs.Page.{status_data}
 use Rattle.runs.proofs.PageLaws.{status_long}
 use Rattle.store.specs.Move.{status_told, status_rows}
 use Rattle.reply.specs.Reply.{Replied, reply_of}
 use Rattle.reply.specs.Cut.{gives}
-use Rattle.reply.proofs.ReplyLaws.{plain, reply_refused}
 use Rattle.blocks.specs.Moved.{tells_status}
 
 module _ (capacity : ℕ) (owners : List ℕ) (x : ℕ) where
-  pub status_range : (n : ℕ) (data_in : List ℕ) (r : Answer) → r ≡ out_of_range x → capacity ≤ x → plain r data_in ≡ tells_status capacity owners x n data_in
-  unfolding status_rows refuses
-  status_range n data_in r e h = rw e (reply_refused _ (out_of_range _) _ data_in (row_stop (out_of_range _) _ _ (le-leb capacity x h)) tt)
-
   -- the page that is put together: m of its bytes are told
   module _ (m : ℕ) (lent page : List ℕ) (e : m ≡ length (status_data capacity owners x)) (whole : length lent ≡ 520)
       (filled : page ≡ put lent 0 (status_data capacity owners x)) where
-    pub page_fits : m ≤ length page
-    page_fits =
-        let h = status_long capacity owners x in
-        let k = ap length filled ∙ length_put lent 0 (status_data capacity owners x) in
-        omega arith
-
     page_told : take m page ≡ status_data capacity owners x
     page_told =
         rw (filled, e, put_front lent (status_data capacity owners x) (let h = status_long capacity owners x in omega arith))

@@ -2,7 +2,6 @@
 -- Assumes nothing.
 use Rattle.std.specs.Prelude.{Bool, not, ◌&&◌, cond, List, [], ◌∷◌, ℕ}
 use Rattle.fields.specs.Bytes.{are_zeros}
-use Rattle.answers.specs.declared.Answer.{Answer}
 use Rattle.answers.specs.declared.Answer.TheVariants.{Good}
 use Rattle.answers.specs.Answers.{no_room}
 use Rattle.answers.specs.Order.{◌if◌, first, if_good}
@@ -13,7 +12,6 @@ use Rattle.forms.specs.declared.Request.{Request}
 use Rattle.store.specs.Store.{Call}
 use Rattle.store.specs.Same.{same_blocks}
 use Rattle.store.specs.Move.{read_rows, write_rows, same_rows, unmap_rows, status_told, status_rows, move_rows, moved, fetched}
-use Rattle.reply.specs.declared.Reply.{Reply}
 use Rattle.reply.specs.Contract.{call_of}
 use Rattle.reply.specs.Reply.{Replied, reply_of, Left, leaving, settles}
 
@@ -65,7 +63,3 @@ moves m q capacity p data_out data_in = record {
   reply = reply_of (first (move_rows m q capacity p (data_of data_out data_in))) (fetched m q capacity p) data_in;
   after = if_good (first (move_rows m q capacity p (data_of data_out data_in))) (moved m q p (data_of data_out data_in)) p;
 }
-
--- a reply that returns no bytes
-abbrev pub bare : Answer → Reply
-bare answer = record { answer = answer; returned = 0 }

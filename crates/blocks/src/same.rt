@@ -1,58 +1,47 @@
 // WRITE SAME, after the reservation has let it pass: one block for a whole range.
-ghost use Rattle.std.specs.Prelude.{◌≡◌, ◌&&◌, ◌+◌, ◌*◌, ◌≤◌, length};
-ghost use Rattle.fields.specs.Bytes.{are_zeros};
-ghost use Rattle.pool.specs.Bounds.{most_blocks, most_slots, most_transfer, block_bytes};
+ghost use Rattle.std.specs.Prelude.{◌≡◌, ◌*◌, ◌≤◌, length};
+ghost use Rattle.pool.specs.Bounds.{most_slots, most_transfer, block_bytes};
 ghost use Rattle.pool.specs.Marks.{marks_of};
 ghost use Rattle.pool.specs.Pool.{pool};
-ghost use Rattle.reply.specs.Reply.{Bounded, leaving};
+ghost use Rattle.reply.specs.Reply.{Bounded, changing, Refusing};
 ghost use Rattle.blocks.specs.Moved.{spreads, writes_same};
 
-use crate::transfer;
 use answers::Answer;
 use fields::{bytes, numbers};
+use map::range::Transfer;
 use pool::{BLOCK_BYTES, Lba};
 
-// Whether the range is unmapped. A block is searched for a byte that is not 0 only where that is asked for.
-fn is_unmapped(may_unmap: bool, block: &[u8]) -> bool
-    ensures { result ≡ (may_unmap && are_zeros block.now) }
-{
-    if may_unmap {
-        return bytes::are_zeros(block);
-    }
-    false
-}
-
-// The block goes to the whole range, or the range is unmapped.
+// The block goes to the whole range, or the range is unmapped. A block is searched for a byte that is not 0 only where that is asked for.
+#[tactic(auto, unfolding(crate::specs::Moved::spreads, reply::specs::Reply::settles, answers::specs::Order::first_of, answers::specs::Order::if_good_by, answers::specs::Order::refuses, map::specs::Write::try_write, pool::specs::Pool::unmap_blocks))]
 fn spread(
     owners: &mut [u64],
     marks: &mut [u64],
     medium: &mut [u8],
-    lba: Lba,
-    count: usize,
+    transfer: Transfer,
     may_unmap: bool,
     block: &[u8],
-) -> Answer
-    requires { (count ≤ most_transfer)
-        × (lba.0 + count ≤ most_blocks)
-        × (length owners.old ≤ most_slots)
+) -> Result<(), Answer>
+    requires { (length owners.old ≤ most_slots)
         × (marks.old ≡ marks_of owners.old)
         × (length medium.old ≡ block_bytes * length owners.old)
         × (length block.now ≡ block_bytes) }
-    ensures { leaving result (pool owners.new marks.new medium.new)
-        ≡ spreads (pool owners.old marks.old medium.old) lba.0 count may_unmap block.now }
+    ensures leaves { changing result (pool owners.new marks.new medium.new)
+        ≡ spreads (pool owners.old marks.old medium.old) transfer.range.first.0 transfer.range.count may_unmap block.now }
+    ensures refusing { Refusing result }
 {
-    if is_unmapped(may_unmap, block) {
-        map::unmap::unmap_blocks(owners, marks, lba, count as u64);
-        return Answer::Good;
+    if may_unmap && bytes::are_zeros(block) {
+        map::unmap::unmap_blocks(owners, marks, transfer.range);
+        return Ok(());
     }
-    if map::write::write_same(owners, marks, medium, lba, count, block) {
-        Answer::Good
+    if map::write::write_same(owners, marks, medium, transfer, block) {
+        Ok(())
     } else {
-        answers::no_room(lba.0)
+        Err(answers::no_room(transfer.range.first.0))
     }
 }
 
 // `options` is byte 1 of the CDB: bit 3 is UNMAP, and bit 0 NDOB, with which data-out is not looked at and the block is zeros.
+#[tactic(auto, unfolding(store::specs::Move::same_rows, store::specs::Move::past_end, store::specs::Same::has_no_data, reply::specs::Reply::settles, answers::specs::Order::first_of, answers::specs::Order::if_good_by, answers::specs::Order::refuses))]
 pub fn write_same(
     capacity: u64,
     owners: &mut [u64],
@@ -62,29 +51,34 @@ pub fn write_same(
     count: u64,
     options: u8,
     data_out: &[u8],
-) -> Answer
+) -> Result<(), Answer>
     requires { Bounded capacity owners.old marks.old medium.old × (count ≤ most_transfer) }
-    ensures { leaving result (pool owners.new marks.new medium.new)
+    ensures leaves { changing result (pool owners.new marks.new medium.new)
         ≡ writes_same capacity (pool owners.old marks.old medium.old) lba.0 count options data_out.now }
+    ensures refusing { Refusing result }
 {
-    if transfer::past_end(capacity, lba, count) {
-        return answers::out_of_range(lba.0);
-    }
-    let blocks = count as usize;
+    let Some(transfer) = Transfer::within(capacity, lba, count) else {
+        return Err(answers::out_of_range(lba.0));
+    };
     let may_unmap = numbers::bit(options, 3);
     if numbers::bit(options, 0) {
-        let zeros = [0; BLOCK_BYTES];
-        return spread(owners, marks, medium, lba, blocks, may_unmap, &zeros);
+        return spread(
+            owners,
+            marks,
+            medium,
+            transfer,
+            may_unmap,
+            &[0; BLOCK_BYTES],
+        );
     }
     if data_out.len() < BLOCK_BYTES {
-        return Answer::Short;
+        return Err(Answer::Short);
     }
     spread(
         owners,
         marks,
         medium,
-        lba,
-        blocks,
+        transfer,
         may_unmap,
         &data_out[..BLOCK_BYTES],
     )

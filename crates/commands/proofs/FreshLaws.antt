@@ -1,67 +1,48 @@
--- Making a fresh store by the ways through its rows.
+-- Whether a fresh store was made: with a unit where the answer is GOOD, and without one where it refuses.
 -- Assumes nothing.
-use mathlib.Core.Path.{◌≡◌, ap, ◌∙◌}
-use mathlib.Core.Bool.{true, false, not}
+use mathlib.Core.Path.{◌≡◌, refl, sym, ap, ◌∙◌}
 use mathlib.Core.List.{List}
 use Prim.Native.Nat.{ℕ}
-use lib.Dec.{eqb}
+use lib.Dec.{T}
 use lib.ListN.{length}
-use Rattle.fields.specs.Bytes.{zeros}
+use Rattle.std.specs.Prelude.{Result, Ok, Err, IsOk}
 use Rattle.answers.specs.declared.Answer.{Answer}
-use Rattle.answers.specs.declared.Answer.TheVariants.{Good, Unusable}
+use Rattle.answers.specs.declared.Answer.TheVariants.{Good, Refused, Conflict, Unusable, Short}
 use Rattle.answers.specs.Order.{if_good_by, refuses}
-use Rattle.answers.specs.Sense.{format_ok}
-use Rattle.answers.proofs.OrderLaws.{row_pass, row_stop, row_end}
-use Rattle.pool.specs.Bounds.{mark_words}
-use Rattle.pool.specs.Valid.{capacity_ok, slots_ok}
+use Rattle.answers.proofs.OrderLaws.{row_stop}
+use Rattle.pool.specs.Valid.{capacity_ok}
 use Rattle.store.specs.declared.Unit.{Unit}
-use Rattle.store.specs.Fresh.{fresh_unit, fresh_answer, fresh}
-use Rattle.reply.specs.declared.Made.{Made}
+use Rattle.store.specs.Fresh.{FreshResult, fresh_unit, fresh_answer, fresh}
 use Rattle.reply.specs.Contract.{made}
-use Rattle.commands.specs.Served.{unmade}
 
-module _ (capacity format : ℕ) (owners marks : List ℕ) where
-  answer : Answer
-  answer = fresh_answer capacity format (length owners) (length marks)
+-- a fresh store has blocks where its answer is GOOD
+good_blocks : (capacity format slots words : ℕ) → fresh_answer capacity format slots words ≡ Good → fresh_unit 0 ≡ fresh_unit capacity → ⊥
+unfolding fresh_answer fresh_unit capacity_ok
+good_blocks capacity format slots words g e =
+    let none : capacity ≡ 0 = sym (ap (λ (u : Unit). u.capacity) e) in
+    let stopped : fresh_answer 0 format slots words ≡ Unusable = row_stop Unusable _ _ refl in
+    let both : Good ≡ Unusable = sym g ∙ ap (λ (n : ℕ). fresh_answer n format slots words) none ∙ stopped in
+    cc
 
-  module _ (e : capacity_ok capacity ≡ true) (f : format_ok format ≡ true) where
-    bad_slots : slots_ok (length owners) ≡ false → answer ≡ Unusable
-    unfolding fresh_answer answer
-    bad_slots h = row_pass Unusable _ _ (ap not e) ∙ row_pass Unusable _ _ (ap not f) ∙ row_stop Unusable _ _ (ap not h)
+-- so an answer without a unit is none that is GOOD
+pub unmade_refuses : (capacity format : ℕ) (before marked : List ℕ) (a : Answer) (owners marks : List ℕ)
+    → made (Err a) owners marks ≡ fresh capacity format before marked → T (refuses a)
+unfolding fresh if_good_by refuses
+unmade_refuses capacity format before marked Good owners marks e =
+    let good : fresh_answer capacity format (length before) (length marked) ≡ Good = sym (ap (λ (x : FreshResult). x.answer) e) in
+    let unit : fresh_unit 0 ≡ fresh_unit capacity = rw good at (ap (λ (x : FreshResult). x.unit) e) in
+    absurd (good_blocks capacity format (length before) (length marked) good unit)
+unmade_refuses capacity format before marked (Refused x) owners marks e = tt
+unmade_refuses capacity format before marked Conflict owners marks e = tt
+unmade_refuses capacity format before marked Unusable owners marks e = tt
+unmade_refuses capacity format before marked Short owners marks e = tt
 
-    bad_marks : slots_ok (length owners) ≡ true → eqb (length marks) mark_words ≡ false → answer ≡ Unusable
-    unfolding fresh_answer answer
-    bad_marks h k =
-        row_pass Unusable _ _ (ap not e) ∙ row_pass Unusable _ _ (ap not f) ∙ row_pass Unusable _ _ (ap not h) ∙ row_stop Unusable _ _ (ap not k)
-
-    no_fault : slots_ok (length owners) ≡ true → eqb (length marks) mark_words ≡ true → answer ≡ Good
-    unfolding fresh_answer answer
-    no_fault h k =
-        row_pass Unusable _ _ (ap not e) ∙ row_pass Unusable _ _ (ap not f) ∙ row_pass Unusable _ _ (ap not h) ∙ row_pass Unusable _ _ (ap not k) ∙ row_end
-
-  module _ (r : Made) (e : r ≡ unmade) where
-    refused : answer ≡ Unusable → made r owners marks ≡ fresh capacity format owners marks
-    unfolding fresh if_good_by refuses answer
-    refused h = rw (e, h)
-
-    pub fresh_capacity : capacity_ok capacity ≡ false → made r owners marks ≡ fresh capacity format owners marks
-    unfolding fresh_answer answer
-    fresh_capacity h = refused (row_stop Unusable _ _ (ap not h))
-
-    pub fresh_format : capacity_ok capacity ≡ true → format_ok format ≡ false → made r owners marks ≡ fresh capacity format owners marks
-    unfolding fresh_answer answer
-    fresh_format h f = refused (row_pass Unusable _ _ (ap not h) ∙ row_stop Unusable _ _ (ap not f))
-
-    pub fresh_slots : capacity_ok capacity ≡ true → format_ok format ≡ true → slots_ok (length owners) ≡ false
-        → made r owners marks ≡ fresh capacity format owners marks
-    fresh_slots h f k = refused (bad_slots h f k)
-
-    pub fresh_marks : capacity_ok capacity ≡ true → format_ok format ≡ true → slots_ok (length owners) ≡ true → eqb (length marks) mark_words ≡ false
-        → made r owners marks ≡ fresh capacity format owners marks
-    fresh_marks h f k m = refused (bad_marks h f k m)
-
-  pub fresh_made : (unit : Unit) (after cleared : List ℕ) → unit ≡ fresh_unit capacity → capacity_ok capacity ≡ true → format_ok format ≡ true
-      → slots_ok (length owners) ≡ true → eqb (length marks) mark_words ≡ true → after ≡ zeros (length owners) → cleared ≡ zeros mark_words
-      → made (record { answer = Good; unit = unit }) after cleared ≡ fresh capacity format owners marks
-  unfolding fresh if_good_by refuses answer
-  fresh_made unit after cleared u e f h k o m = rw (u, o, m, no_fault e f h k)
+-- and one that is GOOD comes with a unit
+pub good_made : (capacity format : ℕ) (before marked : List ℕ) (r : Result Unit Answer) (owners marks : List ℕ)
+    → made r owners marks ≡ fresh capacity format before marked → (fresh capacity format before marked).answer ≡ Good → IsOk r
+unfolding refuses
+good_made capacity format before marked (Ok u) owners marks e g = refl
+good_made capacity format before marked (Err a) owners marks e g =
+    let t : T (refuses a) = unmade_refuses capacity format before marked a owners marks e in
+    let good : a ≡ Good = ap (λ (x : FreshResult). x.answer) e ∙ g in
+    absurd (rw good at t)

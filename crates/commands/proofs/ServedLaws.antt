@@ -1,19 +1,18 @@
 -- What a served command leaves is what its part leaves: commands that tell, alter, or move blocks.
 -- Assumes nothing.
-use mathlib.Core.Path.{◌≡◌, refl, sym, ap, ◌∙◌, subst}
-use mathlib.Core.List.{List, []}
+use mathlib.Core.Path.{◌≡◌, refl, ap, ◌∙◌}
+use mathlib.Core.List.{List}
 use Prim.Native.Nat.{ℕ, ◌≤◌}
 use lib.Dec.{T}
+use Rattle.std.specs.Prelude.{Result, Ok, Err}
 use Rattle.answers.specs.declared.Answer.{Answer}
 use Rattle.answers.specs.declared.Answer.TheVariants.{Good, Refused, Conflict, Unusable, Short}
 use Rattle.answers.specs.Order.{first, if_good, if_good_by, refuses}
-use Rattle.answers.proofs.OrderLaws.{if_refused}
 use Rattle.pool.specs.Bounds.{most_transfer}
 use Rattle.pool.specs.Pool.{Pool, pool}
 use Rattle.rights.specs.declared.Rights.{Rights}
 use Rattle.rights.specs.declared.Action.{Action}
-use Rattle.rights.specs.declared.Decision.{Decision}
-use Rattle.rights.specs.Actions.{acted}
+use Rattle.rights.specs.Actions.{acted, unless_refused}
 use Rattle.forms.specs.declared.Tell.{Tell}
 use Rattle.forms.specs.declared.Move.{Move}
 use Rattle.forms.specs.declared.Move.TheVariants.{Read, Write, WriteSame, Unmap, Status}
@@ -26,15 +25,14 @@ use Rattle.store.specs.Store.{Call, enacted, leaves}
 use Rattle.store.specs.Alter.{parameters_of, alter_rows}
 use Rattle.store.specs.Move.{move_rows, moved, fetched}
 use Rattle.store.specs.Step.{command_rows, command_data, command_store}
-use Rattle.store.proofs.StoreLaws.{enacted_still}
 use Rattle.reply.specs.declared.Outcome.{Outcome}
 use Rattle.reply.specs.Contract.{store_of}
-use Rattle.reply.specs.Reply.{Replied, reply_of, served, serves}
+use Rattle.reply.specs.Reply.{reply_of, replied, served, serves}
 use Rattle.reply.proofs.ReplyLaws.{serving, serves_reply, serves_part}
 use Rattle.tell.specs.Telling.{tells}
 use Rattle.alter.specs.Altered.{altered}
 use Rattle.blocks.specs.Moved.{Moved, moving, moves}
-use Rattle.commands.specs.Served.{bare, alters_to, served_by}
+use Rattle.commands.specs.Served.{bare, replying, alters_to, served_by}
 
 -- a command on the blocks sees nothing of a call but the data
 unseen : (m : Move) (q : Request) (capacity : ℕ) (p : Pool) (c : Call)
@@ -61,40 +59,42 @@ whole_pool Conflict bs format u done kept data_in = refl
 whole_pool Unusable bs format u done kept data_in = refl
 whole_pool Short bs format u done kept data_in = refl
 
--- a refused action leaves the unit
-pub altered_refused : (a : Action) (q : Request) (n : ℕ) (data_out : List ℕ) (u : Unit) (x : Decision) → x ≡ altered a q u.rights n data_out
-    → T (refuses x.answer) → bare x.answer u ≡ alters_to a n u (altered a q u.rights n data_out)
-unfolding altered
-altered_refused a q n data_out u x e t =
-    ap (λ (d : Decision). bare d.answer u) e
-    ∙ ap (bare _) (sym (enacted_still a n u))
-    ∙ ap (λ (r : Rights). bare (first (alter_rows a q u.rights n data_out)) (enacted a n u r))
-    (sym (if_refused (first (alter_rows a q u.rights n data_out)) _ u.rights (subst (λ (d : Decision). T (refuses d.answer)) e t)))
+-- the outcome of an action: a refusal leaves the unit
+decided_outcome : (a : Action) (n : ℕ) (u : Unit) (x : Answer) (made : Rights) → alters_to a n u (unless_refused x made) ≡ bare x (if_good x (enacted a n u made) u)
+unfolding if_good_by refuses
+decided_outcome a n u Good made = refl
+decided_outcome a n u (Refused x) made = refl
+decided_outcome a n u Conflict made = refl
+decided_outcome a n u Unusable made = refl
+decided_outcome a n u Short made = refl
+
+-- the outcome of a reply: its unit is left
+reply_served : (r : Result ℕ Answer) (format : ℕ) (u : Unit) (owners marks medium data_in : List ℕ)
+    → served format (replying r u) owners marks medium data_in ≡ serving (replied r data_in) (store_of format u owners marks medium)
+reply_served (Ok n) format u owners marks medium data_in = refl
+reply_served (Err a) format u owners marks medium data_in = refl
 
 module _ (format : ℕ) (k : Command) (q : Request) (u : Unit) (owners marks medium : List ℕ) (c : Call) where
-  pub tells_served : (t : Tell) (v : Replied) → k ≡ Tells t → v ≡ tells t q u c.data_in
-      → serving v (store_of format u owners marks medium) ≡ served_by k q (store_of format u owners marks medium) c
+  pub tells_served : (t : Tell) (r : Result ℕ Answer) (data_in : List ℕ) → k ≡ Tells t → replied r data_in ≡ tells t q u c.data_in
+      → served format (replying r u) owners marks medium data_in ≡ served_by k q (store_of format u owners marks medium) c
   unfolding served_by command_rows command_data command_store
-  tells_served t v e h = rw e (serves_reply _ _ (store_of format u owners marks medium) c.data_in v h)
+  tells_served t r data_in e h =
+      reply_served r format u owners marks medium data_in ∙ rw e (serves_reply _ _ (store_of format u owners marks medium) c.data_in _ h)
 
   pub alters_served : (a : Action) (r : Outcome) → k ≡ Alters a → r ≡ alters_to a c.nexus u (altered a q u.rights c.nexus c.data_out)
       → served format r owners marks medium c.data_in ≡ served_by k q (store_of format u owners marks medium) c
   unfolding served_by command_rows command_data command_store altered
   alters_served a r e h =
-      rw (e, h)
-      (serves_part (λ (x : Rights). store_of format (enacted a c.nexus u x) owners marks medium) _ _ u.rights c.data_in
-      ∙ ap
-      (λ (x : Unit). serves (first (alter_rows a q u.rights c.nexus c.data_out)) []
-      (store_of format (enacted a c.nexus u (acted a u.rights c.nexus (parameters_of q c.data_out))) owners marks medium)
-      (store_of format x owners marks medium) c.data_in)
-      (enacted_still a c.nexus u))
+      rw (e, h, decided_outcome a c.nexus u (first (alter_rows a q u.rights c.nexus c.data_out)) (acted a u.rights c.nexus (parameters_of q c.data_out)))
+      (serves_part (λ (x : Unit). store_of format x owners marks medium) _ _ u c.data_in)
 
-  pub moves_served : (m : Move) (v : Replied) (owners' marks' medium' : List ℕ) → k ≡ Moves m
-      → moving v owners' marks' medium' ≡ moves m q u.capacity (pool owners marks medium) c.data_out c.data_in
-      → serving v (store_of format u owners' marks' medium') ≡ served_by k q (store_of format u owners marks medium) c
+  pub moves_served : (m : Move) (r : Result ℕ Answer) (owners' marks' medium' data_in : List ℕ) → k ≡ Moves m
+      → moving (replied r data_in) owners' marks' medium' ≡ moves m q u.capacity (pool owners marks medium) c.data_out c.data_in
+      → served format (replying r u) owners' marks' medium' data_in ≡ served_by k q (store_of format u owners marks medium) c
   unfolding served_by command_rows command_data command_store
-  moves_served m v owners' marks' medium' e h =
-      rw e
+  moves_served m r owners' marks' medium' data_in e h =
+      reply_served r format u owners' marks' medium' data_in
+      ∙ rw e
       (ap (λ (w : Moved). serving w.reply (record { format = format; unit = u; pool = w.after })) (h ∙ unseen m q u.capacity (pool owners marks medium) c)
       ∙ whole_pool _ _ format u _ (pool owners marks medium) c.data_in)
 

@@ -5,6 +5,7 @@ use mathlib.Core.Bool.{Bool, true, false, not, ◌&&◌, true≢false, false≢t
 use mathlib.Core.List.{List, [], ◌∷◌}
 use Prim.Native.Nat.{ℕ}
 use lib.Dec.{T}
+use Rattle.std.specs.Prelude.{Ok, Err}
 use Rattle.fields.proofs.Tests.{T_false}
 use Rattle.answers.specs.declared.Answer.{Answer}
 use Rattle.answers.specs.declared.Answer.TheVariants.{Good, Refused, Conflict, Unusable, Short}
@@ -15,11 +16,9 @@ use Rattle.answers.proofs.OrderLaws.{first_append, next_after, next_refuses}
 use Rattle.forms.specs.declared.Move.TheVariants.{Read, Write, WriteSame, Unmap, Status}
 use Rattle.forms.specs.declared.Command.{Command}
 use Rattle.forms.specs.declared.Command.TheVariants.{Tells, Moves, Alters}
-use Rattle.forms.specs.declared.Entry.{Entry}
 use Rattle.forms.specs.declared.Request.{Request}
-use Rattle.forms.specs.Forms.{entry_of, Asked, asked_in, asked_of}
+use Rattle.forms.specs.Forms.{Entry, entry_of, Asked, asked_in, asked_of}
 use Rattle.forms.proofs.Fields.{Fits, asked_fits}
-use Rattle.decoder.specs.declared.Decoded.TheVariants.{Asks, Wrong}
 use Rattle.store.specs.Store.{Store, Call, Result, with_unit, refused_unit, leaves, seen_of}
 use Rattle.store.specs.Tell.{tell_rows}
 use Rattle.store.specs.Move.{move_rows, moved}
@@ -66,14 +65,14 @@ module _ (e : Entry) (s : Store) (c : Call) where
       ∙ first_append (stage_rows e s.unit c.nexus c.cdb) _ (stage_refusing e s.unit c.nexus c.cdb)
 
   -- the stages refuse
-  answer_wrong : (a : Answer) → ready_for s c ≡ true → asked_at e s.unit c.nexus c.cdb ≡ Wrong a → answer_by e s c ≡ a
+  answer_wrong : (a : Answer) → ready_for s c ≡ true → asked_at e s.unit c.nexus c.cdb ≡ Err a → answer_by e s c ≡ a
   answer_wrong a h w =
       answer_ready h
       ∙ next_refuses _ _ (wrong_refused e s.unit c.nexus c.cdb a w)
       ∙ wrong_answer e s.unit c.nexus c.cdb a w
 
   -- they let a request pass
-  answer_asks : (q : Request) → ready_for s c ≡ true → asked_at e s.unit c.nexus c.cdb ≡ Asks q
+  answer_asks : (q : Request) → ready_for s c ≡ true → asked_at e s.unit c.nexus c.cdb ≡ Ok q
       → answer_by e s c ≡ first (command_rows q.command q s c)
   unfolding own_rows
   answer_asks q h w =
@@ -107,7 +106,7 @@ module _ (s : Store) (n : ℕ) (cdb out in' sense : List ℕ) where
   step_unready h = step_refused Unusable tt (answer_unready (entry_of cdb) s (call_of n cdb out in' sense) h)
 
   module _ (h : ready_for s (call_of n cdb [] [] sense) ≡ true) where
-    pub step_wrong : (a : Answer) (sense' : List ℕ) → asked_at (entry_of cdb) s.unit n cdb ≡ Wrong a → sense' ≡ sense_after s.format a sense
+    pub step_wrong : (a : Answer) (sense' : List ℕ) → asked_at (entry_of cdb) s.unit n cdb ≡ Err a → sense' ≡ sense_after s.format a sense
         → left s.format (bare a (refused_unit a n s.unit)) s.pool.owners s.pool.marks s.pool.medium in' sense' ≡ step s (call_of n cdb out in' sense)
     unfolding ready_for
     step_wrong a sense' w k =
@@ -118,7 +117,7 @@ module _ (s : Store) (n : ℕ) (cdb out in' sense : List ℕ) where
 
     -- ---- a command
 
-    module _ (q : Request) (w : asked_at (entry_of cdb) s.unit n cdb ≡ Asks q) where
+    module _ (q : Request) (w : asked_at (entry_of cdb) s.unit n cdb ≡ Ok q) where
       -- at most 128 blocks are moved
       pub asks_fits : Fits q
       unfolding asked_of

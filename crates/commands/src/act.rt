@@ -7,15 +7,12 @@ ghost use Rattle.reply.specs.Reply.{Bounded, served};
 ghost use Rattle.alter.specs.Altered.{altered};
 ghost use Rattle.commands.specs.Served.{served_by, alters_to, bare, replying};
 
-use answers::Answer;
+use answers::{Answer, Refusal};
 use attentions::notices;
 use forms::{Command, Request};
-use reply::{Outcome, Reply};
+use reply::Outcome;
 use rights::{Action, Rights};
 use store::Unit;
-
-// The number of the answers that return what waited for a nexus.
-const ATTENTION: u64 = 13;
 
 // An answer that returns no bytes.
 pub fn answered(answer: Answer, unit: Unit) -> Outcome
@@ -28,59 +25,64 @@ pub fn answered(answer: Answer, unit: Unit) -> Outcome
     }
 }
 
-// A reply leaves the unit.
-fn replied(reply: Reply, unit: Unit) -> Outcome
+// A command that returns bytes, or is refused, leaves the unit as it was.
+fn replied(reply: Result<usize, Answer>, unit: Unit) -> Outcome
     ensures { result ≡ replying reply unit }
 {
-    let answer = reply.answer;
-    Outcome {
-        answer,
-        returned: reply.returned,
-        unit,
+    match reply {
+        Ok(returned) => Outcome {
+            answer: Answer::Good,
+            returned,
+            unit,
+        },
+        Err(answer) => answered(answer, unit),
     }
 }
 
 // The unit where an action of a nexus leaves these rights.
+#[tactic(auto, unfolding(store::specs::Store::enacted))]
 fn enacted(action: Action, nexus: u64, unit: Unit, rights: Rights) -> Unit
     ensures { result ≡ enacted action nexus unit rights }
 {
-    let old = unit.attentions;
-    let attentions = notices::send(action, unit.rights, rights, nexus, old);
+    let attentions = notices::send(action, &unit.rights, &rights, nexus, unit.attentions);
     Unit {
-        capacity: unit.capacity,
         rights,
         attentions,
+        ..unit
     }
 }
 
 // The unit after a refusal: one that returns what waited for the nexus takes it away.
+#[tactic(auto, unfolding(store::specs::Store::refused_unit, store::specs::Store::relieved, answers::specs::Answers::is_attention, answers::specs::Answers::number_of, answers::specs::Answers::codes_of))]
 pub fn refused_unit(answer: Answer, nexus: u64, unit: Unit) -> Unit
     ensures { result ≡ refused_unit answer nexus unit }
 {
-    if answers::number_of(answer) != ATTENTION {
+    let returns_what_waited = matches!(
+        answer,
+        Answer::Refused(
+            Refusal::RegistrationsPreempted
+                | Refusal::ReservationsPreempted
+                | Refusal::ReservationsReleased
+        )
+    );
+    if !returns_what_waited {
         return unit;
     }
-    let old = unit.attentions;
-    let attentions = attentions::returned_to(old, nexus);
-    let mut after = unit;
-    after.attentions = attentions;
-    after
+    let attentions = attentions::returned_to(unit.attentions, nexus);
+    Unit { attentions, ..unit }
 }
 
 // A command on the rights changes no block.
 fn alters(action: Action, request: Request, unit: Unit, nexus: u64, data_out: &[u8]) -> Outcome
     ensures { result ≡ alters_to action nexus unit (altered action request unit.rights nexus data_out.now) }
 {
-    let decision = alter::alter(action, request, unit.rights, nexus, data_out);
-    let answer = decision.answer;
-    let Answer::Good = answer else {
-        return answered(answer, unit);
-    };
-    let rights = decision.rights;
-    answered(answer, enacted(action, nexus, unit, rights))
+    match alter::alter(action, &request, &unit.rights, nexus, data_out) {
+        Ok(rights) => answered(Answer::Good, enacted(action, nexus, unit, rights)),
+        Err(answer) => answered(answer, unit),
+    }
 }
 
-// No command looks at the format of sense: what it leaves is the same of every one.
+// No command looks at the format of sense: what it leaves is the same of every format.
 pub fn act(
     request: Request,
     unit: Unit,
@@ -97,14 +99,19 @@ pub fn act(
         (store_of format unit owners.old marks.old medium.old)
         (call_of nexus [] data_out.now data_in.old []) }
 {
-    let command = request.command;
-    match command {
+    match request.command {
         Command::Tells(what) => replied(tell::tell(what, request, unit, data_in), unit),
         Command::Alters(action) => alters(action, request, unit, nexus, data_out),
         Command::Moves(what) => {
-            let capacity = unit.capacity;
             let reply = blocks::move_blocks(
-                what, request, capacity, owners, marks, medium, data_out, data_in,
+                what,
+                request,
+                unit.capacity,
+                owners,
+                marks,
+                medium,
+                data_out,
+                data_in,
             );
             replied(reply, unit)
         }

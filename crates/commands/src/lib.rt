@@ -9,14 +9,14 @@ ghost use Rattle.store.specs.Step.{step};
 ghost use Rattle.store.specs.Fresh.{fresh_unit, fresh};
 ghost use Rattle.store.specs.Room.{room_of};
 ghost use Rattle.reply.specs.Contract.{store_of, call_of, left, made};
-ghost use Rattle.commands.specs.Served.{unmade};
+ghost use Rattle.commands.specs.Room.{room_told};
 
 use answers::sense::{put_refusal, put_sense};
 use answers::{Answer, sense};
-use decoder::Decoded;
+use marks::{FreeRoom, Words};
 use pool::MARK_WORDS;
-use reply::{Made, Outcome};
-use store::{Room, Unit};
+use reply::Outcome;
+use store::Unit;
 
 // One call. Whatever is lent, it is answered.
 pub fn execute(
@@ -39,94 +39,71 @@ pub fn execute(
     if !readiness::ready(format, unit, owners, marks, medium, nexus, cdb, sense) {
         return act::answered(Answer::Unusable, unit);
     }
-    let asked = stages::asked(unit, nexus, cdb);
-    match asked {
-        Decoded::Wrong(answer) => {
+    match stages::asked(unit, nexus, cdb) {
+        Err(answer) => {
             put_sense(format, answer, sense);
             act::answered(answer, act::refused_unit(answer, nexus, unit))
         }
-        Decoded::Asks(request) => {
+        Ok(request) => {
             let outcome = act::act(
                 request, unit, owners, marks, medium, nexus, data_out, data_in,
             );
-            let answer = outcome.answer;
             // Not by `put_sense`: most calls are served, and need not lay out their answer to be told that it has no sense.
-            let Answer::Refused(refusal) = answer else {
-                return outcome;
-            };
-            put_refusal(format, refusal, sense);
+            if let Answer::Refused(refusal) = outcome.answer {
+                put_refusal(format, refusal, sense);
+            }
             outcome
         }
     }
 }
 
 // A unit without registration and reservation, and with nothing waiting.
+#[tactic(auto, unfolding(store::specs::Fresh::fresh_unit))]
 fn fresh_unit(capacity: u64) -> Unit
     ensures { result ≡ fresh_unit capacity }
 {
-    let rights = reservations::standing::none();
-    let attentions = attentions::none();
     Unit {
         capacity,
-        rights,
-        attentions,
+        rights: reservations::standing::none(),
+        attentions: attentions::none(),
     }
 }
 
-// What bad bounds and a format that is none give: a unit without blocks, so that every call on it is refused.
-fn refused() -> Made
-    ensures { result ≡ unmade }
-{
-    let unit = fresh_unit(0);
-    Made {
-        answer: Answer::Unusable,
-        unit,
-    }
-}
-
-// A fresh store. The medium is neither taken nor touched; bad bounds, and a format that is none, leave the owners and the marks.
-pub fn fresh(capacity: u64, format: u64, owners: &mut [u64], marks: &mut [u64]) -> Made
+// A fresh store's unit. The medium is neither taken nor touched; bad bounds, and a format that is none, leave the owners and the marks.
+#[tactic(auto, unfolding(store::specs::Fresh::fresh, store::specs::Fresh::fresh_answer, answers::specs::Order::first_of, answers::specs::Order::if_good_by, answers::specs::Order::refuses))]
+pub fn fresh(
+    capacity: u64,
+    format: u64,
+    owners: &mut [u64],
+    marks: &mut [u64],
+) -> Result<Unit, Answer>
     ensures { made result owners.new marks.new ≡ fresh capacity format owners.old marks.old }
 {
-    if !readiness::capacity_ok(capacity) {
-        return refused();
-    }
-    if !sense::format_ok(format) {
-        return refused();
-    }
-    if !readiness::slots_ok(owners.len()) {
-        return refused();
-    }
-    if marks.len() != MARK_WORDS {
-        return refused();
+    if !readiness::capacity_ok(capacity)
+        || !sense::format_ok(format)
+        || !readiness::slots_ok(owners.len())
+        || marks.len() != MARK_WORDS
+    {
+        return Err(Answer::Unusable);
     }
     map::slots::free_all(owners);
     marks::clear_all(marks);
-    let unit = fresh_unit(capacity);
-    Made {
-        answer: Answer::Good,
-        unit,
-    }
+    Ok(fresh_unit(capacity))
 }
 
 // The room of a store, read off its marks. It is no command, and changes nothing.
-pub fn room(format: u64, unit: Unit, owners: &[u64], marks: &[u64], medium: &[u8]) -> Room
-    ensures { result ≡ room_of (store_of format unit owners.now marks.now medium.now) }
+#[tactic(auto, using(crate::proofs::RoomLaws::room_refused, crate::proofs::RoomLaws::room_read))]
+pub fn room(
+    format: u64,
+    unit: Unit,
+    owners: &[u64],
+    marks: &[u64],
+    medium: &[u8],
+) -> Result<FreeRoom, Answer>
+    ensures { room_told result ≡ room_of (store_of format unit owners.now marks.now medium.now) }
 {
     if !readiness::usable(format, unit, owners, marks, medium) {
-        return Room {
-            answer: Answer::Unusable,
-            free: 0,
-            lowest: 0,
-        };
+        return Err(Answer::Unusable);
     }
-    let words = marks::words_of(marks);
-    let slot = marks::lowest(words);
-    let lowest = slot.0 as u64;
-    let free = (owners.len() - marks::marked(words)) as u64;
-    Room {
-        answer: Answer::Good,
-        free,
-        lowest,
-    }
+    Ok(Words::of(marks).room(owners.len()))
 }

@@ -7,12 +7,11 @@ use mathlib.Core.List.{[], ◌∷◌}
 use Prim.Native.Nat.{ℕ}
 use borrow.Author.Tests.{ne_eqb}
 use types.Run.{OneOf}
+use Rattle.std.specs.Prelude.{None}
 use Rattle.rights.specs.declared.Rights.{Rights}
 use Rattle.rights.specs.Places.{registered}
 use Rattle.rights.specs.Rights.{is_one_of, holds}
-use Rattle.store.specs.declared.Column.{Column}
-use Rattle.store.specs.declared.Column.TheVariants.{Free}
-use Rattle.store.specs.Conflict.{registered_nexus, other_write_exclusive, other_exclusive_access, column_under, column_of}
+use Rattle.store.specs.Conflict.{Column, registered_nexus, other_write_exclusive, other_exclusive_access, column_under, column_of}
 
 -- the column of a nexus that does not hold
 pub not_holder : (r : Rights) (n : ℕ) (column : Column) → holds r n ≡ false → column ≡ column_under r.kind (registered n r.places)
@@ -32,16 +31,10 @@ exclusive_access kind known (inl e) = rw e
 exclusive_access kind known (inr e) = rw e
 
 -- no type
-pub no_type : (kind : ℕ) (known : Bool) → OneOf (0 ∷ 2 ∷ 4 ∷ []) kind → Free ≡ column_under kind known
+pub no_type : (kind : ℕ) (known : Bool) → (OneOf (1 ∷ []) kind → ⊥) → (OneOf (3 ∷ []) kind → ⊥) → (OneOf (5 ∷ 7 ∷ []) kind → ⊥)
+    → (OneOf (6 ∷ 8 ∷ []) kind → ⊥) → None ≡ column_under kind known
 unfolding column_under is_one_of
-no_type kind known (inl e) = rw e
-no_type kind known (inr (inl e)) = rw e
-no_type kind known (inr (inr e)) = rw e
-
-pub no_type_either : (kind : ℕ) (known : Bool) → (OneOf (1 ∷ []) kind → ⊥) → (OneOf (3 ∷ []) kind → ⊥) → (OneOf (5 ∷ 7 ∷ []) kind → ⊥)
-    → (OneOf (6 ∷ 8 ∷ []) kind → ⊥) → Free ≡ column_under kind known
-unfolding column_under is_one_of
-no_type_either kind known a b c d =
+no_type kind known a b c d =
     simp (
       ne_eqb kind 1 a,
       ne_eqb kind 3 b,

@@ -7,6 +7,7 @@ use Prim.Native.Nat.{ℕ, zero, suc, ◌<◌}
 use native.Mathlib.Omega.{arith}
 use lib.Dec.{T, ltb, ltb→lt}
 use lib.ListN.{get_or}
+use Rattle.std.specs.Prelude.{Some, None}
 use Rattle.rights.specs.declared.Rights.{Rights}
 use Rattle.rights.specs.declared.Action.TheVariants.{Register}
 use Rattle.rights.specs.Rights.{is_one_of, one_holds, all_hold, holds}
@@ -14,9 +15,7 @@ use Rattle.forms.specs.declared.Tell.TheVariants.{Ready, Inquiry, Capacity10, Ca
 use Rattle.forms.specs.declared.Move.TheVariants.{Read, Write, WriteSame, Unmap, Status}
 use Rattle.forms.specs.declared.Command.{Command}
 use Rattle.forms.specs.declared.Command.TheVariants.{Tells, Moves, Alters}
-use Rattle.store.specs.declared.Column.{Column}
-use Rattle.store.specs.declared.Column.TheVariants.{Free, At}
-use Rattle.store.specs.Conflict.{Allowed, column_under, column_of, row, says, conflict}
+use Rattle.store.specs.Conflict.{Column, Allowed, column_under, column_of, row, says, conflict}
 use Rattle.store.proofs.ConflictLaws.{by_row, column_listed}
 use Rattle.conflict.specs.Rows.{number_of, somewhere}
 
@@ -79,5 +78,5 @@ unfolding conflict says
 nobody_stopped r n k e = sym (go (column_of r n) refl)
   where
     go : (column : Column) → column_of r n ≡ column → says column (row k) ≡ false
-    go Free h = refl
-    go (At column) h = nowhere (row k) column e (column_listed r n column h)
+    go None h = refl
+    go (Some column) h = nowhere (row k) column e (column_listed r n column h)

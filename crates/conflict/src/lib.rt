@@ -1,17 +1,17 @@
 // The conflict table, as docs/CONFLICTS.md shows it: a row for each command, a column for each reservation and sender. It is looked up.
 #![tactic(auto)]
 
-ghost use Rattle.std.specs.Prelude.{◌≡◌, cond};
+ghost use Rattle.std.specs.Prelude.{◌≡◌, cond, Some};
 ghost use Rattle.rights.specs.Places.{registered};
-ghost use Rattle.store.specs.declared.Column.TheVariants.{At};
 ghost use Rattle.store.specs.Conflict.{registered_nexus, row, column_of, conflict};
 ghost use Rattle.conflict.specs.Rows.{number_of, somewhere};
 
 use forms::{Command, Move, Tell};
-use reservations::places::Want;
 use reservations::{places, standing};
-use rights::Rights;
-use store::Column;
+use rights::{
+    EXCLUSIVE_ACCESS, EXCLUSIVE_ACCESS_ALL_REGISTRANTS, EXCLUSIVE_ACCESS_REGISTRANTS_ONLY, Rights,
+    WRITE_EXCLUSIVE, WRITE_EXCLUSIVE_ALL_REGISTRANTS, WRITE_EXCLUSIVE_REGISTRANTS_ONLY,
+};
 
 const ALLOWED: bool = false;
 
@@ -35,7 +35,7 @@ const TABLE: [[bool; 5]; 12] = [
     [CONFLICT, CONFLICT, ALLOWED, CONFLICT, CONFLICT], // WRITE SAME
 ];
 
-// The columns, from the left.
+// The columns, from the left. A column is a place in a row: cells are looked up by it.
 const ANY_WRITE_EXCLUSIVE: usize = 0;
 
 const ANY_EXCLUSIVE_ACCESS: usize = 1;
@@ -47,39 +47,36 @@ const OTHER_WRITE_EXCLUSIVE: usize = 3;
 const OTHER_EXCLUSIVE_ACCESS: usize = 4;
 
 // The number of a command's row.
+#[tactic(auto, unfolding(crate::specs::Rows::number_of))]
 fn number_of(command: Command) -> usize
     ensures { result ≡ number_of command }
 {
     match command {
-        Command::Tells(what) => match what {
-            Tell::Inquiry => 1,
-            Tell::VitalData => 1,
-            Tell::Keys => 2,
-            Tell::Reservation => 3,
-            Tell::Capacity10 => 6,
-            Tell::Capacity16 => 7,
-            Tell::Ready => 8,
-        },
-        Command::Moves(what) => match what {
-            Move::Status => 0,
-            Move::Read => 5,
-            Move::Unmap => 9,
-            Move::Write => 10,
-            Move::WriteSame => 11,
-        },
+        Command::Moves(Move::Status) => 0,
+        Command::Tells(Tell::Inquiry | Tell::VitalData) => 1,
+        Command::Tells(Tell::Keys) => 2,
+        Command::Tells(Tell::Reservation) => 3,
         Command::Alters(_) => 4,
+        Command::Moves(Move::Read) => 5,
+        Command::Tells(Tell::Capacity10) => 6,
+        Command::Tells(Tell::Capacity16) => 7,
+        Command::Tells(Tell::Ready) => 8,
+        Command::Moves(Move::Unmap) => 9,
+        Command::Moves(Move::Write) => 10,
+        Command::Moves(Move::WriteSame) => 11,
     }
 }
 
 // A command's row.
+#[tactic(auto, using(crate::proofs::TableLaws::number_listed, crate::proofs::TableLaws::row_there), unfolding(crate::proofs::TableLaws::table, store::specs::Conflict::row))]
 fn row_of(command: Command) -> [bool; 5]
     ensures { result ≡ row command }
 {
-    let number = number_of(command);
-    TABLE[number]
+    TABLE[number_of(command)]
 }
 
-// Whether a row stops anybody.
+// Whether a row stops anybody. All cells at once: each command passes here, and a search would branch at each cell.
+#[tactic(auto, unfolding(crate::specs::Rows::somewhere))]
 fn stops_anybody(row: [bool; 5]) -> bool
     ensures { result ≡ somewhere row }
 {
@@ -87,45 +84,47 @@ fn stops_anybody(row: [bool; 5]) -> bool
 }
 
 // The column of a registered nexus, or else this one.
-fn registered_or(rights: Rights, nexus: u64, column: usize) -> Column
-    ensures { result ≡ cond (registered nexus rights.places) registered_nexus (At column) }
+fn registered_or(rights: &Rights, nexus: u64, column: usize) -> usize
+    ensures { Some result ≡ cond (registered nexus rights.now.places) registered_nexus (Some column) }
 {
-    let places = rights.places;
-    if places::has(places, Want::Of(nexus)) {
-        return Column::At(REGISTERED);
+    if places::is_registered(&rights.places, nexus) {
+        REGISTERED
+    } else {
+        column
     }
-    Column::At(column)
 }
 
 // The column of a sender.
-fn column_of(rights: Rights, nexus: u64) -> Column
-    ensures { result ≡ column_of rights nexus }
+fn column_of(rights: &Rights, nexus: u64) -> Option<usize>
+    ensures { result ≡ column_of rights.now nexus }
 {
     if standing::holds(rights, nexus) {
-        return Column::Free;
+        return None;
     }
-    let kind = rights.kind;
-    match kind {
-        1 => Column::At(ANY_WRITE_EXCLUSIVE),
-        3 => Column::At(ANY_EXCLUSIVE_ACCESS),
-        5 | 7 => registered_or(rights, nexus, OTHER_WRITE_EXCLUSIVE),
-        6 | 8 => registered_or(rights, nexus, OTHER_EXCLUSIVE_ACCESS),
-        0 | 2 | 4 | 9..=0xFFFF_FFFF => Column::Free,
+    match rights.kind {
+        WRITE_EXCLUSIVE => Some(ANY_WRITE_EXCLUSIVE),
+        EXCLUSIVE_ACCESS => Some(ANY_EXCLUSIVE_ACCESS),
+        WRITE_EXCLUSIVE_REGISTRANTS_ONLY | WRITE_EXCLUSIVE_ALL_REGISTRANTS => {
+            Some(registered_or(rights, nexus, OTHER_WRITE_EXCLUSIVE))
+        }
+        EXCLUSIVE_ACCESS_REGISTRANTS_ONLY | EXCLUSIVE_ACCESS_ALL_REGISTRANTS => {
+            Some(registered_or(rights, nexus, OTHER_EXCLUSIVE_ACCESS))
+        }
+        _ => None,
     }
 }
 
 // Whether the reservation stops a command of a nexus.
-pub fn conflicts(command: Command, rights: Rights, nexus: u64) -> bool
-    ensures { result ≡ conflict rights nexus command }
+pub fn conflicts(command: Command, rights: &Rights, nexus: u64) -> bool
+    ensures { result ≡ conflict rights.now nexus command }
 {
     let row = row_of(command);
     // Saves the search for the sender's registration.
     if !stops_anybody(row) {
         return ALLOWED;
     }
-    let column = column_of(rights, nexus);
-    match column {
-        Column::Free => ALLOWED,
-        Column::At(at) => row[at],
+    match column_of(rights, nexus) {
+        None => ALLOWED,
+        Some(at) => row[at],
     }
 }

@@ -3,7 +3,7 @@
 use mathlib.Core.Path.{◌≡◌, refl}
 use mathlib.Core.Bool.{Bool, true, false, ◌&&◌, false≢true}
 use mathlib.Core.List.{List}
-use Prim.Native.Nat.{ℕ, zero, suc, ◌+◌, ◌-◌, ◌*◌, ◌≤◌, ◌<◌}
+use Prim.Native.Nat.{ℕ, zero, suc, ◌+◌, ◌-◌, ◌≤◌, ◌<◌}
 use native.Mathlib.Nat.{sub-zero}
 use native.Mathlib.Omega.{arith}
 use lib.Dec.{leb, eqb}
@@ -55,6 +55,5 @@ module _ (sheet : List ℕ) (i n at : ℕ) (end : bodies_end sheet i (n - i) at 
       omega
       (arith, end, bodies_turn sheet i n at (body_end sheet i at) h refl, bodies_rise sheet (i + 1) (n - (i + 1)) (body_end sheet i at))
 
-pub bodies_begin_law : (sheet : List ℕ) (n : ℕ) → good_sheet sheet ≡ true → n ≡ calls sheet → bodies_end sheet 0 (n - 0) (1 + 4 * n) ≡ length sheet
-unfolding bodies_begin
-bodies_begin_law sheet n good e = rw (sub-zero n, e) (good_end sheet good)
+pub bodies_begin_law : (sheet : List ℕ) (n at : ℕ) → good_sheet sheet ≡ true → n ≡ calls sheet → at ≡ bodies_begin sheet → bodies_end sheet 0 (n - 0) at ≡ length sheet
+bodies_begin_law sheet n at good e b = rw (sub-zero n, e, b) (good_end sheet good)

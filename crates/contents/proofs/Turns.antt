@@ -3,12 +3,8 @@
 use mathlib.Core.Path.{◌≡◌}
 use mathlib.Core.List.{List}
 use Prim.Native.Nat.{ℕ, suc, ◌+◌, ◌-◌, ◌<◌, ◌≤◌}
-use native.Mathlib.Nat.{sub-zero}
 use native.Mathlib.Omega.{arith}
 use Rattle.contents.specs.Contents.{body_end, bodies_end}
-
-pub bodies_start : (sheet : List ℕ) (n at : ℕ) → bodies_end sheet 0 (n - 0) at ≡ bodies_end sheet 0 n at
-bodies_start sheet n at = rw (sub-zero n)
 
 bodies_more : (sheet : List ℕ) (i m n at : ℕ) → n ≡ suc m → bodies_end sheet (i + 1) m (body_end sheet i at) ≡ bodies_end sheet i n at
 unfolding bodies_end

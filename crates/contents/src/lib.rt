@@ -1,94 +1,85 @@
-// The contents of a call sheet: where each call's body stands, and whether the sheet is as long as it says.
+// The contents of a call sheet: where each call's body stands, and whether the sheet is as long as it says. Functions over the sheet's bytes: a
+// struct of them alone would hold no fact.
 #![tactic(auto)]
 
 ghost use Rattle.std.specs.Prelude.{◌≡◌, ◌+◌, ◌*◌, ◌^◌, ◌≤◌, ◌<◌};
-ghost use Rattle.contents.specs.Contents.{calls, nexus_of, cdb_length, out_length, body_end, bodies_end, good_sheet};
+ghost use Rattle.contents.specs.Contents.{calls, nexus_of, cdb_length, out_length, body_end, bodies_begin, bodies_end, good_sheet};
 
 use fields::numbers;
 
 // 01: "number of calls (one byte, to 32)", "Sheets over 64 KiB".
-const MOST_CALLS: usize = 32;
+const MOST_CALLS: u8 = 32;
 
 pub const MOST_BYTES: usize = 65536;
 
-fn wide(x: u8) -> usize
-    ensures { (result ≡ x) × (result < 256) }
-{
-    x as usize
-}
-
-fn narrow(x: u64) -> usize
-    ensures { result ≡ x }
-{
-    x as usize
-}
-
 // The number of calls.
-pub fn calls_in(sheet: &[u8]) -> usize
-    ensures { (result ≡ calls sheet.now) × (result < 256) }
+#[tactic(auto, unfolding(crate::specs::Contents::calls))]
+pub fn calls_in(sheet: &[u8]) -> u8
+    ensures { result ≡ calls sheet.now }
 {
-    wide(numbers::byte(sheet, 0))
+    numbers::byte(sheet, 0)
 }
 
 // The nexus of call i, counted from 0.
-pub fn nexus_of(sheet: &[u8], i: usize) -> u64
-    requires { i < 256 }
+#[tactic(auto, unfolding(crate::specs::Contents::nexus_of))]
+pub fn nexus_of(sheet: &[u8], i: u8) -> u64
     ensures { result ≡ nexus_of sheet.now i }
 {
-    numbers::byte(sheet, 1 + 4 * i) as u64
+    u64::from(numbers::byte(sheet, 1 + 4 * usize::from(i)))
 }
 
 // How many bytes the CDB of call i has.
-pub fn cdb_length(sheet: &[u8], i: usize) -> usize
-    requires { i < 256 }
+#[tactic(auto, unfolding(crate::specs::Contents::cdb_length))]
+pub fn cdb_length(sheet: &[u8], i: u8) -> usize
     ensures { (result ≡ cdb_length sheet.now i) × (result < 256) }
 {
-    wide(numbers::byte(sheet, 2 + 4 * i))
+    usize::from(numbers::byte(sheet, 2 + 4 * usize::from(i)))
 }
 
 // How many bytes of data-out call i has.
-pub fn out_length(sheet: &[u8], i: usize) -> usize
-    requires { i < 256 }
+#[tactic(auto, unfolding(crate::specs::Contents::out_length))]
+pub fn out_length(sheet: &[u8], i: u8) -> usize
     ensures { (result ≡ out_length sheet.now i) × (result < 65536) }
 {
-    narrow(numbers::number(sheet, 3 + 4 * i, 2))
+    numbers::number(sheet, 3 + 4 * usize::from(i), 2) as usize
 }
 
 // Where the body of call i ends that begins at a byte.
-pub fn body_end(sheet: &[u8], i: usize, at: usize) -> usize
-    requires { (i < 256) × (at < 2 ^ 32) }
+#[tactic(auto, unfolding(crate::specs::Contents::body_end))]
+pub fn body_end(sheet: &[u8], i: u8, at: usize) -> usize
+    requires { at < 2 ^ 32 }
     ensures { (result ≡ body_end sheet.now i at) × (result ≤ at + 65790) }
 {
     at + (cdb_length(sheet, i) + out_length(sheet, i))
 }
 
-// Where the bodies of all calls end.
-fn bodies_end(sheet: &[u8], n: usize) -> usize
-    requires { n < 256 }
-    ensures { result ≡ bodies_end sheet.now 0 n (1 + 4 * n) }
+// Where the first body begins.
+#[tactic(auto, unfolding(crate::specs::Contents::bodies_begin))]
+pub fn bodies_begin(sheet: &[u8]) -> usize
+    ensures { (result ≡ bodies_begin sheet.now) × (result ≤ 1021) }
 {
-    let mut at = 1 + 4 * n;
-    let mut i: usize = 0;
-    while i < n {
+    1 + 4 * usize::from(calls_in(sheet))
+}
+
+// Where the bodies of all calls end.
+#[tactic(auto, using(crate::proofs::Turns::bodies_turn, crate::proofs::Turns::bodies_done))]
+fn bodies_end(sheet: &[u8]) -> usize
+    ensures { result ≡ bodies_end sheet.now 0 (calls sheet.now) (bodies_begin sheet.now) }
+{
+    let mut at = bodies_begin(sheet);
+    for i in 0..calls_in(sheet) {
         at = body_end(sheet, i, at);
-        i = i + 1;
     }
     at
 }
 
 // Whether the sheet is one to run.
+#[tactic(auto, unfolding(crate::specs::Contents::good_sheet))]
 pub fn is_good(sheet: &[u8]) -> bool
     ensures { result ≡ good_sheet sheet.now }
 {
-    let n = calls_in(sheet);
-    if sheet.len() < 1 {
-        return false;
-    }
-    if MOST_BYTES < sheet.len() {
-        return false;
-    }
-    if MOST_CALLS < n {
-        return false;
-    }
-    bodies_end(sheet, n) == sheet.len()
+    !sheet.is_empty()
+        && sheet.len() <= MOST_BYTES
+        && calls_in(sheet) <= MOST_CALLS
+        && bodies_end(sheet) == sheet.len()
 }

@@ -1,30 +1,30 @@
 -- The ways that the tests of a CDB can end: v is their answer.
 -- Assumes nothing.
 use mathlib.Core.Path.{◌≡◌, refl, sym, ap, ◌∙◌}
-use mathlib.Core.Bool.{Bool, true, false, ◌||◌, true≢false}
-use mathlib.Core.List.{List}
-use Prim.Native.Nat.{ℕ, ◌-◌}
+use mathlib.Core.Bool.{Bool, true, false, not, ◌||◌, true≢false}
+use mathlib.Core.List.{List, ◌∷◌, map}
+use Prim.Native.Nat.{ℕ, suc, ◌+◌, ◌-◌, ◌<◌, ◌≤◌}
 use lib.Dec.{T}
+use Rattle.std.specs.Prelude.{Some, None, Ok, Err, is_some, length, get_or, drop}
+use Rattle.std.proofs.Common.{add-one}
+use Rattle.std.proofs.Math.Seq.{drop-cons}
+use Rattle.std.proofs.lemmas.List.{drop_all}
 use Rattle.fields.specs.Field.{byte, bit}
 use Rattle.fields.specs.Bits.{number_in}
 use Rattle.answers.specs.declared.Answer.{Answer}
 use Rattle.answers.specs.declared.Answer.TheVariants.{Good, Refused, Conflict, Unusable, Short}
 use Rattle.answers.specs.Answers.{invalid_field}
-use Rattle.answers.specs.Order.{first, refuses}
+use Rattle.answers.specs.Order.{◌if◌, first, refuses}
 use Rattle.answers.proofs.OrderLaws.{row_pass, row_stop, row_end}
 use Rattle.forms.specs.declared.Test.{Test}
 use Rattle.forms.specs.declared.Form.{Form}
-use Rattle.forms.specs.declared.Service.{Service}
-use Rattle.forms.specs.declared.Service.TheVariants.{Served, Other}
 use Rattle.forms.specs.declared.Code.{Code}
 use Rattle.forms.specs.declared.Request.{Request}
-use Rattle.forms.specs.Forms.{action_bits, number, request_by, Asked, nothing, asks, asked_by}
-use Rattle.forms.specs.Tests.{wrong_in, check_rows, is_set, check_of, test_checks, service_checks, control_check, code_checks}
-use Rattle.decoder.specs.declared.Decoded.{Decoded}
-use Rattle.decoder.specs.declared.Decoded.TheVariants.{Asks, Wrong}
-use Rattle.decoder.specs.Decoding.{decoded, is_other}
+use Rattle.forms.specs.Forms.{Span, Service, action_bits, number, request_by, Asked, nothing, asks, asked_by}
+use Rattle.forms.specs.Tests.{Check, wrong_in, check_rows, is_set, check_of, test_checks, service_checks, control_check, code_checks}
+use Rattle.decoder.specs.Decoding.{Decoded, decoded}
 
-stops : (a : Answer) (asked : Asked) → T (refuses a) → Wrong a ≡ decoded a asked
+stops : (a : Answer) (asked : Asked) → T (refuses a) → Err a ≡ decoded a asked
 unfolding decoded refuses
 stops a nothing t = refl
 stops Good (asks q) t = absurd t
@@ -34,58 +34,49 @@ stops Unusable (asks q) t = refl
 stops Short (asks q) t = refl
 
 -- they refuse, with the answer a
-pub decoded_wrong : (v a : Answer) (asked : Asked) → v ≡ a → T (refuses a) → Wrong a ≡ decoded v asked
+pub decoded_wrong : (v a : Answer) (asked : Asked) → v ≡ a → T (refuses a) → Err a ≡ decoded v asked
 decoded_wrong v a asked e t = stops a asked t ∙ ap (λ (b : Answer). decoded b asked) (sym e)
 
 -- they let a request pass
-pub decoded_asks : (v : Answer) (q : Request) → v ≡ Good → Asks q ≡ decoded v (asks q)
+pub decoded_asks : (v : Answer) (q : Request) → v ≡ Good → Ok q ≡ decoded v (asks q)
 unfolding decoded refuses
 decoded_asks v q e = rw e
 
 -- ---- what a decoding says of the tests
 
-unfoldable is_wrong : Decoded → Bool
-is_wrong (Asks q) = false
-is_wrong (Wrong a) = true
-
-unfoldable answer_in : Decoded → Answer → Answer
-answer_in (Asks q) b = b
-answer_in (Wrong a) b = a
-
-unfoldable request_in : Decoded → Request → Request
-request_in (Asks q) r = q
-request_in (Wrong a) r = r
-
 -- it asks: nothing refuses, and this is what is asked for
-pub asks_good : (v : Answer) (asked : Asked) (q : Request) → decoded v asked ≡ Asks q → v ≡ Good
-unfolding decoded refuses is_wrong
-asks_good v nothing q e = absurd (true≢false (ap is_wrong e))
+pub asks_good : (v : Answer) (asked : Asked) (q : Request) → decoded v asked ≡ Ok q → v ≡ Good
+unfolding decoded refuses
+asks_good v nothing q e = cc
 asks_good Good (asks r) q e = refl
-asks_good (Refused s) (asks r) q e = absurd (true≢false (ap is_wrong e))
-asks_good Conflict (asks r) q e = absurd (true≢false (ap is_wrong e))
-asks_good Unusable (asks r) q e = absurd (true≢false (ap is_wrong e))
-asks_good Short (asks r) q e = absurd (true≢false (ap is_wrong e))
+asks_good (Refused s) (asks r) q e = cc
+asks_good Conflict (asks r) q e = cc
+asks_good Unusable (asks r) q e = cc
+asks_good Short (asks r) q e = cc
 
-pub asks_this : (v : Answer) (asked : Asked) (q : Request) → decoded v asked ≡ Asks q → asked ≡ asks q
-unfolding decoded is_wrong request_in refuses
-asks_this v nothing q e = absurd (true≢false (ap is_wrong e))
-asks_this v (asks r) q e =
-    ap asks (ap (λ (d : Decoded). request_in d r) (ap (λ (a : Answer). decoded a (asks r)) (sym (asks_good v (asks r) q e)) ∙ e))
+pub asks_this : (v : Answer) (asked : Asked) (q : Request) → decoded v asked ≡ Ok q → asked ≡ asks q
+unfolding decoded refuses
+asks_this v nothing q e = cc
+asks_this Good (asks r) q e = cc
+asks_this (Refused s) (asks r) q e = cc
+asks_this Conflict (asks r) q e = cc
+asks_this Unusable (asks r) q e = cc
+asks_this Short (asks r) q e = cc
 
 -- it refuses: with the answer of the tests, which refuses unless nothing is asked for
-pub wrong_this : (v a : Answer) (asked : Asked) → decoded v asked ≡ Wrong a → v ≡ a
-unfolding decoded refuses is_wrong answer_in
-wrong_this v a nothing e = ap (λ (d : Decoded). answer_in d v) e
-wrong_this Good a (asks r) e = absurd (true≢false (sym (ap is_wrong e)))
-wrong_this (Refused s) a (asks r) e = ap (λ (d : Decoded). answer_in d a) e
-wrong_this Conflict a (asks r) e = ap (λ (d : Decoded). answer_in d a) e
-wrong_this Unusable a (asks r) e = ap (λ (d : Decoded). answer_in d a) e
-wrong_this Short a (asks r) e = ap (λ (d : Decoded). answer_in d a) e
+pub wrong_this : (v a : Answer) (asked : Asked) → decoded v asked ≡ Err a → v ≡ a
+unfolding decoded refuses
+wrong_this v a nothing e = cc
+wrong_this Good a (asks r) e = cc
+wrong_this (Refused s) a (asks r) e = cc
+wrong_this Conflict a (asks r) e = cc
+wrong_this Unusable a (asks r) e = cc
+wrong_this Short a (asks r) e = cc
 
-pub wrong_refuses : (v a : Answer) (asked : Asked) → decoded v asked ≡ Wrong a → (asked ≡ nothing → T (refuses v)) → T (refuses v)
-unfolding decoded refuses is_wrong
+pub wrong_refuses : (v a : Answer) (asked : Asked) → decoded v asked ≡ Err a → (asked ≡ nothing → T (refuses v)) → T (refuses v)
+unfolding decoded refuses
 wrong_refuses v a nothing e h = h refl
-wrong_refuses Good a (asks r) e h = absurd (true≢false (sym (ap is_wrong e)))
+wrong_refuses Good a (asks r) e h = cc
 wrong_refuses (Refused s) a (asks r) e h = tt
 wrong_refuses Conflict a (asks r) e h = tt
 wrong_refuses Unusable a (asks r) e h = tt
@@ -93,38 +84,46 @@ wrong_refuses Short a (asks r) e h = tt
 
 -- ---- the row of a command: q is its request
 
-module _ (f : Form) (cdb : List ℕ) (q : Request) (e : q ≡ request_by f cdb) where
-  pub size_is : q.size ≡ number f.size cdb
-  unfolding request_by
-  size_is = ap (λ (r : Request). r.size) e
+abbrev checks : Span → List Test → List Check
+checks size ts = map (λ t. check_of t size) ts
 
-  -- the answer of a test that fails, and what the row decides
-  abbrev pub refusal_of : Test → Answer
-  refusal_of t = invalid_field (check_of t f.size).bits
-
+module _ (f : Form) (cdb : List ℕ) where
   abbrev pub row_decides : Decoded
   row_decides = decoded (first (check_rows (test_checks f) cdb)) (asks (request_by f cdb))
 
-  abbrev pub fails : Test → Bool
-  fails t = wrong_in (check_of t f.size) cdb
+  -- the tests before the one at i pass: those from it on decide
+  abbrev pub Passed : ℕ → Type 0
+  Passed i = first (check_rows (test_checks f) cdb) ≡ first (check_rows (checks f.size (drop i f.tests)) cdb)
 
-  pub tested_first : fails f.first ≡ true → Wrong (refusal_of f.first) ≡ row_decides
-  unfolding test_checks check_rows refuses
-  tested_first h = decoded_wrong _ _ _ (row_stop _ _ _ h) tt
+  -- what the test at i says
+  module _ (i : ℕ) (d : Test) (h : i < length f.tests) (p : Passed i) where
+    abbrev test_at : Check
+    test_at = check_of (get_or f.tests i d) f.size
 
-  module _ (h : fails f.first ≡ false) where
-    pub tested_second : fails f.second ≡ true → Wrong (refusal_of f.second) ≡ row_decides
-    unfolding test_checks check_rows refuses
-    tested_second k = decoded_wrong _ _ _ (row_pass _ _ _ h ∙ row_stop _ _ _ k) tt
+    from_here : first (check_rows (test_checks f) cdb)
+        ≡ first (invalid_field test_at.bits if wrong_in test_at cdb ∷ check_rows (checks f.size (drop (suc i) f.tests)) cdb)
+    unfolding check_rows
+    from_here = p ∙ ap (λ (ts : List Test). first (check_rows (checks f.size ts) cdb)) (drop-cons f.tests i d h)
 
-    module _ (k : fails f.second ≡ false) where
-      pub tested_third : fails f.third ≡ true → Wrong (refusal_of f.third) ≡ row_decides
-      unfolding test_checks check_rows refuses
-      tested_third l = decoded_wrong _ _ _ (row_pass _ _ _ h ∙ row_pass _ _ _ k ∙ row_stop _ _ _ l) tt
+    pub tested_stops : wrong_in test_at cdb ≡ true → Err (invalid_field test_at.bits) ≡ row_decides
+    unfolding refuses
+    tested_stops w = decoded_wrong _ _ _ (from_here ∙ row_stop _ _ _ w) tt
 
-      pub tested_passes : fails f.third ≡ false → Asks q ≡ row_decides
-      unfolding test_checks check_rows
-      tested_passes l = rw e (decoded_asks _ (request_by f cdb) (row_pass _ _ _ h ∙ row_pass _ _ _ k ∙ row_pass _ _ _ l ∙ row_end))
+    pub tested_goes_on : wrong_in test_at cdb ≡ false → Passed (i + 1)
+    tested_goes_on w = rw add-one (from_here ∙ row_pass _ _ _ w)
+
+  -- the request
+  module _ (q : Request) (e : q ≡ request_by f cdb) where
+    pub tested_passes : (i : ℕ) → length f.tests ≤ i → Passed i → Ok q ≡ row_decides
+    unfolding check_rows
+    tested_passes i h p =
+        rw e
+        (decoded_asks _ (request_by f cdb)
+        (p ∙ ap (λ (ts : List Test). first (check_rows (checks f.size ts) cdb)) (drop_all i f.tests h) ∙ row_end))
+
+    pub size_is : q.size ≡ number f.size cdb
+    unfolding request_by
+    size_is = ap (λ (r : Request). r.size) e
 
 -- ---- a listed code: the control byte, and its service action
 
@@ -136,26 +135,25 @@ module _ (code : Code) (cdb : List ℕ) where
   abbrev pub code_decides : Decoded
   code_decides = decoded (first (check_rows (code_checks code) cdb)) (asked_by code.service cdb)
 
-  pub request_control : bit 2 (byte (code.long - 1) cdb) ≡ true → Wrong (invalid_field (control_check code.long).bits) ≡ code_decides
+  pub request_control : bit 2 (byte (code.long - 1) cdb) ≡ true → Err (invalid_field (control_check code.long).bits) ≡ code_decides
   unfolding code_checks check_rows wrong_in is_set number_in bit refuses
   request_control h = decoded_wrong _ _ _ (row_stop _ _ _ h) tt
 
   module _ (h : bit 2 (byte (code.long - 1) cdb) ≡ false) where
-    pub request_served : (f : Form) (d : Decoded) → code.service ≡ Served f → d ≡ decoded (first (check_rows (test_checks f) cdb)) (asks (request_by f cdb))
+    pub request_served : (f : Form) (d : Decoded) → code.service ≡ Some f → d ≡ decoded (first (check_rows (test_checks f) cdb)) (asks (request_by f cdb))
         → d ≡ code_decides
     unfolding code_checks service_checks check_rows wrong_in is_set number_in bit asked_by
     request_served f d s e = rw (s, e) (ap (λ (a : Answer). decoded a (asks (request_by f cdb))) (sym (row_pass _ _ _ h)))
 
-    pub request_other : code.service ≡ Other → Wrong (invalid_field action_bits) ≡ code_decides
+    pub request_other : code.service ≡ None → Err (invalid_field action_bits) ≡ code_decides
     unfolding code_checks service_checks check_rows wrong_in is_set number_in bit asked_by refuses
     request_other s = rw s (decoded_wrong _ _ _ (row_pass _ _ _ h ∙ row_stop _ _ _ refl) tt)
 
-    other_is : (v : Service) → is_other v ≡ true → v ≡ Other
-    unfolding is_other
-    other_is (Served f) e = absurd (true≢false (sym e))
-    other_is Other e = refl
+    none_is : (v : Service) (y : Bool) → is_some v ≡ not y → y ≡ true → v ≡ None
+    none_is (Some f) y e t = absurd (true≢false (e ∙ ap not t))
+    none_is None y e t = refl
 
     -- one of the two is wrong, and it is not the control byte
-    pub request_action : (x : Bool) → (x || is_other code.service) ≡ true → x ≡ false → Wrong (invalid_field action_bits) ≡ code_decides
-    request_action true t f = absurd (true≢false f)
-    request_action false t f = request_other (other_is code.service t)
+    pub request_action : (x y : Bool) → is_some code.service ≡ not y → (x || y) ≡ true → x ≡ false → Err (invalid_field action_bits) ≡ code_decides
+    request_action true y e t f = absurd (true≢false f)
+    request_action false y e t f = request_other (none_is code.service y e t)

@@ -1,31 +1,29 @@
 // Decoding a CDB, once: what the table has for it, whether its fields are right, and the request that it makes.
 #![tactic(auto)]
 
-ghost use Rattle.std.specs.Prelude.{◌≡◌, ◌≤◌};
-ghost use Rattle.fields.specs.Bits.{number_in};
+ghost use Rattle.std.specs.Prelude.{◌≡◌, ◌≤◌, ◌<◌};
+ghost use Rattle.fields.specs.Bits.{whole};
 ghost use Rattle.answers.specs.Answers.{invalid_field};
 ghost use Rattle.answers.specs.Order.{first};
 ghost use Rattle.rights.specs.Rights.{is_one_of, is_type};
-ghost use Rattle.forms.specs.Forms.{action, entry_of, bytes_of, span_bits, number, request_by, asks, asked_by};
+ghost use Rattle.forms.specs.Forms.{entry_of, span_bits, number, request_by, asks, asked_by};
 ghost use Rattle.forms.specs.Tests.{pages, wrong_in, check_rows, check_of, test_checks, code_checks};
-ghost use Rattle.decoder.specs.Decoding.{decoded, is_other};
+ghost use Rattle.decoder.specs.Decoding.{decoded};
 
 use answers::Answer;
 use fields::numbers;
-use forms::{Code, Entry, Field, Form, Request, Service, Span, Test};
+use forms::{Code, Field, Form, Request, Test};
 use pool::{Lba, MOST_TRANSFER};
+use rights::{
+    EXCLUSIVE_ACCESS, EXCLUSIVE_ACCESS_ALL_REGISTRANTS, EXCLUSIVE_ACCESS_REGISTRANTS_ONLY,
+    WRITE_EXCLUSIVE, WRITE_EXCLUSIVE_ALL_REGISTRANTS, WRITE_EXCLUSIVE_REGISTRANTS_ONLY,
+};
 
 mod codes;
 
-// A request, or the answer that refuses it.
-#[derive(Clone, Copy)]
-pub enum Decoded {
-    Asks(Request),
-    Wrong(Answer),
-}
-
 // What the table has for a CDB.
-pub fn entry_of(cdb: &[u8]) -> Entry
+#[tactic(auto, unfolding(forms::specs::Forms::entry_of, forms::specs::Forms::action, fields::specs::Bits::number_in))]
+pub fn entry_of(cdb: &[u8]) -> Option<Code>
     ensures { result ≡ entry_of cdb.now }
 {
     let code = numbers::byte(cdb, 0);
@@ -33,179 +31,143 @@ pub fn entry_of(cdb: &[u8]) -> Entry
     codes::entry_for(code, action)
 }
 
-fn field_number(field: Field, cdb: &[u8]) -> u64
-    ensures { result ≡ number_in (bytes_of field) cdb.now }
+// The bytes of a number: the first, and how many; where there is no number, no bytes.
+#[tactic(auto, unfolding(forms::specs::Forms::bytes_of, forms::specs::Forms::span_bits))]
+fn bytes_of(field: Option<Field>) -> (u8, u8)
+    ensures place { whole result.0 result.1 ≡ span_bits field }
+    ensures within { result.1 ≤ 8 }
 {
     match field {
-        Field::Two(at) => numbers::number(cdb, at as usize, 2),
-        Field::Four(at) => numbers::number(cdb, at as usize, 4),
-        Field::Eight(at) => numbers::number(cdb, at as usize, 8),
+        None => (0, 0),
+        Some(Field::Two(at)) => (at, 2),
+        Some(Field::Four(at)) => (at, 4),
+        Some(Field::Eight(at)) => (at, 8),
     }
 }
 
 // The number that stands there; 0 where there is none.
-fn number_at(span: Span, cdb: &[u8]) -> u64
-    ensures { result ≡ number span cdb.now }
+#[tactic(auto, unfolding(forms::specs::Forms::number, fields::specs::Bits::number_in))]
+fn number_at(field: Option<Field>, cdb: &[u8]) -> u64
+    ensures { result ≡ number field cdb.now }
 {
-    match span {
-        Span::Absent => 0,
-        Span::At(field) => field_number(field, cdb),
-    }
+    let (at, bytes) = bytes_of(field);
+    numbers::number(cdb, usize::from(at), usize::from(bytes))
 }
 
+#[tactic(auto, unfolding(forms::specs::Forms::request_by, fields::specs::Bits::number_in, fields::specs::Field::field))]
 fn request_of(form: Form, cdb: &[u8]) -> Request
     ensures { result ≡ request_by form cdb.now }
 {
-    let command = form.command;
-    let span = form.address;
-    let address = Lba(number_at(span, cdb));
-    let span = form.size;
-    let size = number_at(span, cdb);
     let page = numbers::byte(cdb, 2);
-    let kind = (page % 16) as u32;
-    let options = numbers::byte(cdb, 1);
     Request {
-        command,
-        address,
-        size,
-        kind,
+        command: form.command,
+        address: Lba(number_at(form.address, cdb)),
+        size: number_at(form.size, cdb),
+        kind: u32::from(page % 16),
         page,
-        options,
+        options: numbers::byte(cdb, 1),
     }
 }
 
 // One of the six types of a reservation.
+#[tactic(auto, unfolding(rights::specs::Rights::is_type, rights::specs::Rights::is_one_of))]
 fn is_type(kind: u8) -> bool
     ensures { result ≡ is_type kind }
 {
-    match kind {
-        1 => true,
-        3 => true,
-        5 => true,
-        6 => true,
-        7 => true,
-        8 => true,
-        0..=255 => false,
-    }
+    matches!(
+        u32::from(kind),
+        WRITE_EXCLUSIVE
+            | EXCLUSIVE_ACCESS
+            | WRITE_EXCLUSIVE_REGISTRANTS_ONLY
+            | EXCLUSIVE_ACCESS_REGISTRANTS_ONLY
+            | WRITE_EXCLUSIVE_ALL_REGISTRANTS
+            | EXCLUSIVE_ACCESS_ALL_REGISTRANTS
+    )
 }
 
 // One of the pages of vital product data.
+#[tactic(auto, unfolding(forms::specs::Tests::pages, rights::specs::Rights::is_one_of))]
 fn is_page(code: u8) -> bool
     ensures { result ≡ is_one_of code pages }
 {
-    match code {
-        0x00 => true,
-        0xB0 => true,
-        0xB2 => true,
-        0..=255 => false,
-    }
+    matches!(code, 0x00 | 0xB0 | 0xB2)
 }
 
-// Whether the field of a test is wrong, where `size` is the number in `span`, the count, allocation length or list length.
-fn is_wrong(test: Test, span: Span, size: u64, cdb: &[u8]) -> bool
-    requires { size ≡ number span cdb.now }
-    ensures { result ≡ wrong_in (check_of test span) cdb.now }
+// Whether the field of a test is wrong, where `size` is the number in `field`, the count, allocation length or list length.
+#[tactic(auto, unfolding(forms::specs::Tests::wrong_in, forms::specs::Tests::check_of, forms::specs::Tests::is_set, forms::specs::Tests::not_zero, forms::specs::Forms::number, fields::specs::Bits::number_in, fields::specs::Field::field, fields::specs::Field::bit))]
+fn is_wrong(test: Test, field: Option<Field>, size: u64, cdb: &[u8]) -> bool
+    requires { size ≡ number field cdb.now }
+    ensures { result ≡ wrong_in (check_of test field) cdb.now }
 {
     match test {
         Test::Nothing => false,
-        Test::Page => !(numbers::byte(cdb, 2) == 0),
+        Test::Page => numbers::byte(cdb, 2) != 0,
         Test::VitalPage => !is_page(numbers::byte(cdb, 2)),
-        Test::Protection => !(numbers::byte(cdb, 1) / 32 % 8 == 0),
+        Test::Protection => numbers::byte(cdb, 1) / 32 % 8 != 0,
         Test::Count => (MOST_TRANSFER as u64) < size,
         Test::Anchor => numbers::bit(numbers::byte(cdb, 1), 0),
         Test::SameAnchor => numbers::bit(numbers::byte(cdb, 1), 4),
         Test::SameCount => (size == 0) | ((MOST_TRANSFER as u64) < size),
-        Test::Scope => !(numbers::byte(cdb, 2) / 16 % 16 == 0),
+        Test::Scope => numbers::byte(cdb, 2) / 16 % 16 != 0,
         Test::Kind => !is_type(numbers::byte(cdb, 2) % 16),
     }
 }
 
 // The refusal of a number, which stands in whole bytes.
-fn number_refusal(field: Field) -> Answer
-    ensures { result ≡ invalid_field (bytes_of field) }
+#[tactic(auto, unfolding(fields::specs::Bits::first_byte, fields::specs::Bits::top_bit, fields::specs::Bits::bit_count))]
+fn number_refusal(field: Option<Field>) -> Answer
+    ensures { result ≡ invalid_field (span_bits field) }
 {
-    match field {
-        Field::Two(at) => answers::invalid_field(at, 7, 16),
-        Field::Four(at) => answers::invalid_field(at, 7, 32),
-        Field::Eight(at) => answers::invalid_field(at, 7, 64),
-    }
-}
-
-fn span_refusal(span: Span) -> Answer
-    ensures { result ≡ invalid_field (span_bits span) }
-{
-    match span {
-        Span::Absent => answers::invalid_field(0, 7, 0),
-        Span::At(field) => number_refusal(field),
-    }
+    let (at, bytes) = bytes_of(field);
+    answers::invalid_field(at, 7, bytes * 8)
 }
 
 // The refusal of a test, which names its field: the first byte, the highest bit, how many bits.
-fn refusal(test: Test, span: Span) -> Answer
-    ensures { result ≡ invalid_field (check_of test span).bits }
+#[tactic(auto, unfolding(forms::specs::Tests::check_of, fields::specs::Bits::first_byte, fields::specs::Bits::top_bit, fields::specs::Bits::bit_count))]
+fn refusal(test: Test, field: Option<Field>) -> Answer
+    ensures { result ≡ invalid_field (check_of test field).bits }
 {
     match test {
         Test::Nothing => answers::invalid_field(0, 7, 0),
-        Test::Page => answers::invalid_field(2, 7, 8),
-        Test::VitalPage => answers::invalid_field(2, 7, 8),
+        Test::Page | Test::VitalPage => answers::invalid_field(2, 7, 8),
         Test::Protection => answers::invalid_field(1, 7, 3),
-        Test::Count => span_refusal(span),
+        Test::Count | Test::SameCount => number_refusal(field),
         Test::Anchor => answers::invalid_field(1, 0, 1),
         Test::SameAnchor => answers::invalid_field(1, 4, 1),
-        Test::SameCount => span_refusal(span),
         Test::Scope => answers::invalid_field(2, 7, 4),
         Test::Kind => answers::invalid_field(2, 3, 4),
     }
 }
 
 // The request of a row whose fields are right.
-fn tested(form: Form, cdb: &[u8]) -> Decoded
+fn tested(form: Form, cdb: &[u8]) -> Result<Request, Answer>
     ensures { result ≡ decoded (first (check_rows (test_checks form) cdb.now)) (asks (request_by form cdb.now)) }
 {
     let request = request_of(form, cdb);
-    let span = form.size;
-    let first = form.first;
-    if is_wrong(first, span, request.size, cdb) {
-        return Decoded::Wrong(refusal(first, span));
+    for test in form.tests {
+        if is_wrong(test, form.size, request.size, cdb) {
+            return Err(refusal(test, form.size));
+        }
     }
-    let second = form.second;
-    if is_wrong(second, span, request.size, cdb) {
-        return Decoded::Wrong(refusal(second, span));
-    }
-    let third = form.third;
-    if is_wrong(third, span, request.size, cdb) {
-        return Decoded::Wrong(refusal(third, span));
-    }
-    Decoded::Asks(request)
-}
-
-// Whether the service action is not listed.
-fn is_other(service: Service) -> bool
-    ensures { result ≡ is_other service }
-{
-    match service {
-        Service::Served(_) => false,
-        Service::Other => true,
-    }
+    Ok(request)
 }
 
 // The request of a CDB as long as its code has it: the control byte, then the fields of its row. The control byte and the service action are
-// asked for at once: a branch of its own for each slows what is served. So the last arm is never reached.
-pub fn request(code: Code, cdb: &[u8]) -> Decoded
+// asked for at once: a branch of its own for each slows what is served.
+pub fn request(code: Code, cdb: &[u8]) -> Result<Request, Answer>
     requires { (1 ≤ code.long) × (code.long ≤ 16) }
     ensures { result ≡ decoded (first (check_rows (code_checks code) cdb.now)) (asked_by code.service cdb.now) }
 {
     let last = code.long - 1;
     let control = numbers::bit(numbers::byte(cdb, last), 2);
-    let service = code.service;
-    if control | is_other(service) {
+    if control | code.service.is_none() {
         if control {
-            return Decoded::Wrong(answers::invalid_field(last as u8, 2, 1));
+            return Err(answers::invalid_field(last as u8, 2, 1));
         }
-        return Decoded::Wrong(answers::invalid_field(1, 4, 5));
+        return Err(answers::invalid_field(1, 4, 5));
     }
-    match service {
-        Service::Served(form) => tested(form, cdb),
-        Service::Other => Decoded::Wrong(answers::invalid_field(1, 4, 5)),
+    match code.service {
+        Some(form) => tested(form, cdb),
+        None => unreachable!(),
     }
 }

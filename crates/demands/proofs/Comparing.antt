@@ -5,9 +5,8 @@ use mathlib.Core.Bool.{true, not, ◌&&◌}
 use mathlib.Core.List.{List, [], ◌∷◌}
 use Prim.Native.Nat.{ℕ}
 use lib.Dec.{T, eqb, eqb→eq}
+use Rattle.std.specs.Prelude.{Option, Some, None}
 use Rattle.fields.proofs.Tests.{and_l, and_r}
-use Rattle.answers.specs.declared.Status.{Status}
-use Rattle.answers.specs.declared.Status.TheVariants.{Given, Nothing}
 use Rattle.answers.specs.Answers.{number_of, status_of}
 use Rattle.pool.specs.Pool.{Pool, pool}
 use Rattle.rights.specs.declared.Place.{Place}
@@ -67,12 +66,12 @@ same_equal (x ∷ xs) [] t = absurd t
 same_equal (x ∷ xs) (y ∷ ys) t =
     ap₂ (λ (z : ℕ) (zs : List ℕ). z ∷ zs) (eqb→eq x y (and_l (eqb x y) (same xs ys) t)) (same_equal xs ys (and_r (eqb x y) (same xs ys) t))
 
-status_equal : (a b : Status) → T (same_status a b) → a ≡ b
+status_equal : (a b : Option ℕ) → T (same_status a b) → a ≡ b
 unfolding same_status
-status_equal (Given m) (Given n) t = ap Given (eqb→eq m n t)
-status_equal (Given m) Nothing t = absurd t
-status_equal Nothing (Given n) t = absurd t
-status_equal Nothing Nothing t = refl
+status_equal (Some m) (Some n) t = ap Some (eqb→eq m n t)
+status_equal (Some m) None t = absurd t
+status_equal None (Some n) t = absurd t
+status_equal None None t = refl
 
 places_equal : (ps qs : List Place) → T (same_places ps qs) → ps ≡ qs
 unfolding same_places

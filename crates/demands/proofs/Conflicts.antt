@@ -6,6 +6,7 @@ use mathlib.Core.Bool.{Bool, true, false, cond}
 use mathlib.Core.List.{List, [], ◌∷◌}
 use Prim.Native.Nat.{ℕ}
 use lib.Dec.{T, T_not, eqb}
+use Rattle.std.specs.Prelude.{Some, None}
 use Rattle.fields.proofs.Tests.{test, T_true, T_false, false→T, agree}
 use Rattle.answers.specs.declared.Answer.{Answer}
 use Rattle.answers.specs.declared.Answer.TheVariants.{Good, Refused, Conflict, Unusable, Short}
@@ -20,10 +21,8 @@ use Rattle.forms.specs.declared.Tell.{Tell}
 use Rattle.forms.specs.declared.Move.{Move}
 use Rattle.forms.specs.declared.Move.TheVariants.{Read, Write, WriteSame, Unmap, Status}
 use Rattle.forms.specs.declared.Command.TheVariants.{Tells, Moves, Alters}
-use Rattle.forms.specs.declared.Entry.{Entry}
-use Rattle.forms.specs.declared.Entry.TheVariants.{Listed, Unlisted}
 use Rattle.forms.specs.declared.Request.{Request}
-use Rattle.forms.specs.Forms.{entry_of, asked_of}
+use Rattle.forms.specs.Forms.{Entry, entry_of, asked_of}
 use Rattle.forms.specs.Tests.{code_rows, length_rows, Check, check_rows, checks_of, field_rows}
 use Rattle.forms.proofs.Table.{is_alters, alters_in, alters_code}
 use Rattle.pool.specs.Pool.{Pool}
@@ -124,8 +123,8 @@ fields_none e cdb = checks_none (checks_of e) cdb
 
 length_none : (e : Entry) (cdb : List ℕ) → T (no_ten (length_rows e cdb))
 unfolding length_rows refusing_by not_ten
-length_none (Listed code) cdb = tt
-length_none Unlisted cdb = tt
+length_none (Some code) cdb = tt
+length_none None cdb = tt
 
 fixed_none : (s : Store) (c : Call) → T (no_ten (call_rows s.format c)) × T (no_ten (store_rows s)) × T (no_ten (code_rows (entry_of c.cdb)))
 unfolding call_rows store_rows code_rows refusing_by not_ten

@@ -11,6 +11,7 @@ use native.Mathlib.Omega.{arith}
 use borrow.Author.Tests.{ne_eqb, eq-eqb, leb-false}
 use lib.Dec.{T, eqb, ltb, ltb→lt, lt→ltb}
 use lib.ListN.{length}
+use Rattle.std.specs.Prelude.{None}
 use Rattle.fields.specs.Field.{byte, bit}
 use Rattle.fields.specs.Bits.{number_in}
 use Rattle.fields.proofs.Tests.{or_l, or_r, true→T, false→T}
@@ -20,9 +21,7 @@ use Rattle.answers.proofs.OrderLaws.{row_stop, next_refuses}
 use Rattle.pool.specs.Bounds.{most_transfer}
 use Rattle.forms.specs.declared.Move.{Move}
 use Rattle.forms.specs.declared.Move.TheVariants.{WriteSame, Unmap}
-use Rattle.forms.specs.declared.Entry.{Entry}
-use Rattle.forms.specs.declared.Entry.TheVariants.{Unlisted}
-use Rattle.forms.specs.Forms.{number, action, lines, entry_for, entry_of, count_in}
+use Rattle.forms.specs.Forms.{Entry, number, action, lines, entry_for, entry_of, count_in}
 use Rattle.forms.specs.Tests.{is_unlisted, code_rows, is_set, not_zero, wrong_in, check_of}
 use Rattle.forms.proofs.Table.{lists, lookup_skips}
 use Rattle.forms.proofs.Fields.{tests_of}
@@ -111,7 +110,7 @@ module _ (code : ℕ) (h : lists code lines ≡ false) where
   code_stops : (c : Call) → byte 0 c.cdb ≡ code → code_answer c ≡ not_listed
   unfolding entry_of entry_for code_rows is_unlisted
   code_stops c e =
-      ap (λ (x : Entry). first (code_rows x)) (ap (λ (n : ℕ). entry_for n (action c.cdb)) e ∙ lookup_skips code (action c.cdb) Unlisted lines h)
+      ap (λ (x : Entry). first (code_rows x)) (ap (λ (n : ℕ). entry_for n (action c.cdb)) e ∙ lookup_skips code (action c.cdb) None lines h)
       ∙ row_stop not_listed _ _ refl
 
   unserved : Unserved step code

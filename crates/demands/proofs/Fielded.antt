@@ -25,9 +25,8 @@ use Rattle.forms.specs.declared.Move.{Move}
 use Rattle.forms.specs.declared.Move.TheVariants.{Read, Write, WriteSame, Unmap, Status}
 use Rattle.forms.specs.declared.Command.{Command}
 use Rattle.forms.specs.declared.Command.TheVariants.{Tells, Moves, Alters}
-use Rattle.forms.specs.declared.Span.{Span}
 use Rattle.forms.specs.declared.Request.{Request}
-use Rattle.forms.specs.Forms.{entry_of, number, request_by, Asked, nothing, asks, asked_of}
+use Rattle.forms.specs.Forms.{Span, entry_of, number, request_by, Asked, nothing, asks, asked_of}
 use Rattle.forms.specs.Tests.{is_unlisted, code_rows, length_rows, is_set, Check, wrong_in, check_rows, check_of, control_check, field_rows}
 use Rattle.forms.proofs.Fields.{Row as RowOf, tests_of, row_long, move_checks, asked_row}
 use Rattle.store.specs.Store.{Store, Call}

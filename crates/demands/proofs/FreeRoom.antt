@@ -33,15 +33,14 @@ use Rattle.pool.proofs.SlotMarks.{word_digit, word_only}
 use Rattle.pool.proofs.Writing.{place_assign, place_write_out, assign_mapped, free_write}
 use Rattle.forms.specs.declared.Move.TheVariants.{Write}
 use Rattle.forms.specs.Forms.{count_in}
-use Rattle.store.specs.declared.Room.{Room}
 use Rattle.store.specs.Store.{Store, Call, usable}
 use Rattle.store.specs.Move.{move_rows, write_rows}
 use Rattle.store.specs.Fresh.{fresh_store}
-use Rattle.store.specs.Room.{room_answer, room_of}
+use Rattle.store.specs.Room.{Room, room_answer, room_of}
 use Rattle.store.specs.Step.{store_rows, step, answer_to}
 use Rattle.store.proofs.Rows.{says}
 use Rattle.store.proofs.StoreLaws.{step_answer}
-use Rattle.commands.proofs.RoomLaws.{room_told}
+use Rattle.commands.proofs.RoomLaws.{room_read}
 use Rattle.ridge.specs.Interface.{room_by, roomed, leaves_room}
 use Rattle.demands.specs.History.{after, machine, after_all}
 use Rattle.demands.specs.Contents.{Asks, address_in, IsGood}
@@ -267,7 +266,7 @@ module _ (s : Store) where
 pub tells_room_law : TellsRoom room_of
 tells_room_law = record {
   told = told_walk;
-  read_off = λ s u. sym (room_told s (T_true (usable s) u) _ _ refl refl);
+  read_off = λ s u. sym (room_read s (T_true (usable s) u) _ refl);
   untold = untold;
   lowest_free = low_free;
   lower_taken = lower_taken;

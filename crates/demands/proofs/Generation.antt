@@ -8,6 +8,7 @@ use Prim.Native.Nat.{ℕ, zero, suc, ◌+◌, ◌%◌, ◌^◌}
 use native.Mathlib.Omega.{arith}
 use borrow.Author.Tests.{ne_eqb, leb-true}
 use lib.Dec.{T, eqb, eqb→eq, leb}
+use Rattle.std.specs.Prelude.{None}
 use Rattle.fields.specs.Field.{field, byte}
 use Rattle.fields.specs.Bits.{number_in}
 use Rattle.fields.proofs.Tests.{and_l, test, by_equal}
@@ -20,8 +21,6 @@ use Rattle.rights.specs.Rights.{is_one_of}
 use Rattle.rights.proofs.Generation.{raises, next_generation, acted_generation}
 use Rattle.forms.specs.declared.Command.{Command}
 use Rattle.forms.specs.declared.Command.TheVariants.{Tells, Moves, Alters}
-use Rattle.forms.specs.declared.Service.TheVariants.{Other}
-use Rattle.forms.specs.declared.Entry.TheVariants.{Unlisted}
 use Rattle.forms.specs.declared.Request.{Request}
 use Rattle.forms.specs.Forms.{takes, lines, listed, lookup, action, entry_for, entry_of, request_by, Asked, nothing, asks, asked_by, asked_in, asked_of}
 use Rattle.forms.proofs.Table.{taken, passed, lookup_passes}
@@ -77,9 +76,9 @@ not_beyond : (a k : ℕ) → leb k 6 ≡ true → eqb (beyond a) k ≡ false
 not_beyond a k h = let small = leb-true k 6 h in ne_eqb (beyond a) k (omega arith)
 
 -- an action that none of them has
-other_entry : (a : ℕ) → entry_for 0x5F (beyond a) ≡ listed 10 Other
+other_entry : (a : ℕ) → entry_for 0x5F (beyond a) ≡ listed 10 None
 unfolding entry_for lines takes taken passed
-other_entry a = lookup_passes 0x5F (beyond a) Unlisted lines (simp not_beyond)
+other_entry a = lookup_passes 0x5F (beyond a) None lines (simp not_beyond)
 
 module _ (r : Rights) (n : ℕ) (cdb list : List ℕ) where
   abbrev Said : ℕ → Type 0

@@ -9,6 +9,7 @@ use native.Mathlib.Omega.{arith}
 use borrow.Author.Tests.{ltb-true, ltb-false, eqb-true, not-false}
 use lib.Dec.{T, T_not, ltb, eqb}
 use lib.ListN.{length}
+use Rattle.std.specs.Prelude.{Some, None}
 use Rattle.fields.specs.Field.{byte}
 use Rattle.fields.specs.Bits.{Bits, first_byte, top_bit, bit_count, number_in}
 use Rattle.answers.specs.declared.Refusal.{Refusal}
@@ -27,10 +28,8 @@ use Rattle.forms.specs.declared.Move.TheVariants.{Read, Write, WriteSame, Unmap,
 use Rattle.forms.specs.declared.Command.{Command}
 use Rattle.forms.specs.declared.Command.TheVariants.{Tells, Moves, Alters}
 use Rattle.forms.specs.declared.Code.{Code}
-use Rattle.forms.specs.declared.Entry.{Entry}
-use Rattle.forms.specs.declared.Entry.TheVariants.{Listed, Unlisted}
 use Rattle.forms.specs.declared.Request.{Request}
-use Rattle.forms.specs.Forms.{action, lines, entry_for, entry_of, bytes_of, span_bits, Asked, nothing, asks, asked_of, list_length_in}
+use Rattle.forms.specs.Forms.{Entry, action, lines, entry_for, entry_of, bytes_of, span_bits, Asked, nothing, asks, asked_of, list_length_in}
 use Rattle.forms.specs.Tests.{length_rows, check_rows, check_of, test_checks, service_checks, code_checks, checks_of, field_rows}
 use Rattle.forms.proofs.Table.{all, obeys, looked_up}
 use Rattle.store.specs.Store.{Store, Call}
@@ -52,21 +51,21 @@ place_fits long (placed at top n) = fits long at top n
 
 -- a field that is wrong is named, and it stands in the CDB
 unfoldable entry_fits : List ℕ → Entry → Bool
-entry_fits cdb (Listed code) = refusing_by (λ a. place_fits code.long (place_in a)) (check_rows (code_checks code) cdb)
-entry_fits cdb Unlisted = true
+entry_fits cdb (Some code) = refusing_by (λ a. place_fits code.long (place_in a)) (check_rows (code_checks code) cdb)
+entry_fits cdb None = true
 
 entry_fits_law : (cdb : List ℕ) → T (entry_fits cdb (entry_of cdb))
 unfolding entry_of entry_for lines all obeys entry_fits refusing_by code_checks service_checks test_checks check_of span_bits bytes_of check_rows place_fits place_in place_of fits first_byte top_bit bit_count
-entry_fits_law cdb = looked_up (λ _ e. entry_fits cdb e) (byte 0 cdb) (action cdb) Unlisted lines tt tt
+entry_fits_law cdb = looked_up (λ _ e. entry_fits cdb e) (byte 0 cdb) (action cdb) None lines tt tt
 
-length_is : (code : Code) (cdb : List ℕ) → first (length_rows (Listed code) cdb) ≡ Good → length cdb ≡ code.long
+length_is : (code : Code) (cdb : List ℕ) → first (length_rows (Some code) cdb) ≡ Good → length cdb ≡ code.long
 unfolding length_rows refuses
 length_is code cdb g = eqb-true (length cdb) code.long (not-false _ (row_fails Unusable _ _ tt g))
 
 fits_in : (e : Entry) (cdb : List ℕ) → T (entry_fits cdb e) → first (length_rows e cdb) ≡ Good → T (place_fits (length cdb) (place_in (first (field_rows e cdb))))
 unfolding entry_fits field_rows checks_of check_rows first_of place_fits place_in
-fits_in (Listed code) cdb t g = rw (length_is code cdb g) (first_obeys (λ a. place_fits code.long (place_in a)) _ tt t)
-fits_in Unlisted cdb t g = tt
+fits_in (Some code) cdb t g = rw (length_is code cdb g) (first_obeys (λ a. place_fits code.long (place_in a)) _ tt t)
+fits_in None cdb t g = tt
 
 module _ (cdb : List ℕ) where
   pub field_fits : first (length_rows (entry_of cdb) cdb) ≡ Good → T (place_fits (length cdb) (place_in (first (field_rows (entry_of cdb) cdb))))

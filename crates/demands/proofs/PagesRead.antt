@@ -11,6 +11,7 @@ use borrow.Author.Tests.{le-ltb, leb-true, leb-false}
 use lib.Dec.{T, leb}
 use lib.ListN.{length, take, length-take}
 use lib.Seq.{take_all, get_or-take}
+use Rattle.std.specs.Prelude.{None}
 use Rattle.fields.specs.Field.{field, byte, bit}
 use Rattle.fields.specs.Bits.{number_in}
 use Rattle.fields.proofs.BitsLaws.{one_byte}
@@ -23,9 +24,7 @@ use Rattle.rights.specs.Rights.{is_one_of}
 use Rattle.forms.specs.declared.Tell.TheVariants.{VitalData}
 use Rattle.forms.specs.declared.Command.TheVariants.{Tells}
 use Rattle.forms.specs.declared.Test.TheVariants.{Nothing, VitalPage}
-use Rattle.forms.specs.declared.Span.TheVariants.{Absent}
-use Rattle.forms.specs.declared.Entry.{Entry}
-use Rattle.forms.specs.Forms.{form, two, page_bits, bytes_of, span_bits, number, action, entry_of, request_by, asked_by, asked_in, asked_of}
+use Rattle.forms.specs.Forms.{Entry, form, two, page_bits, bytes_of, span_bits, number, action, entry_of, request_by, asked_by, asked_in, asked_of}
 use Rattle.forms.specs.Tests.{pages, is_set, wrong_in, check_rows, check_of, test_checks, service_checks, code_checks, checks_of, field_rows}
 use Rattle.forms.proofs.Table.{inquiry_entry, inquiry_entry_law}
 use Rattle.store.specs.Store.{Store, Call}
@@ -59,7 +58,7 @@ module _ (code : ℕ) (c : Call) (a : AsksPage code c) where
   pub asks_vital : AsksFor (Tells VitalData) c
   unfolding asked_of asked_in asked_by request_by
   asks_vital = record {
-    request = request_by (form (Tells VitalData) Absent (two 3) VitalPage Nothing) c.cdb;
+    request = request_by (form (Tells VitalData) None (two 3) VitalPage Nothing) c.cdb;
     is = ap (λ (e : Entry). asked_in e c.cdb) page_entry;
     command = refl;
   }

@@ -2,10 +2,11 @@
 -- Assumes nothing.
 use mathlib.Core.Path.{◌≡◌, refl, sym, ap, ◌∙◌, subst}
 use mathlib.Core.Bool.{Bool, true, not, ◌&&◌}
-use mathlib.Core.List.{List, [], ◌∷◌, ◌++◌}
+use mathlib.Core.List.{List, [], ◌∷◌, ◌++◌, map}
 use Prim.Native.Nat.{ℕ, ◌-◌}
 use native.Mathlib.Omega.{arith}
 use lib.Dec.{T, eqb, lit<, lit≤}
+use Rattle.std.specs.Prelude.{Some, None}
 use Rattle.fields.specs.Field.{byte, bit}
 use Rattle.fields.specs.Bits.{Bits, within, first_byte, top_bit, bit_count, number_in, bit_in, AgreeIn, is_place}
 use Rattle.fields.proofs.BitsLaws.{agree_number, within_number}
@@ -27,17 +28,11 @@ use Rattle.forms.specs.declared.Command.{Command}
 use Rattle.forms.specs.declared.Command.TheVariants.{Tells, Moves, Alters}
 use Rattle.forms.specs.declared.Field.{Field}
 use Rattle.forms.specs.declared.Field.TheVariants.{Two, Four, Eight}
-use Rattle.forms.specs.declared.Span.{Span}
-use Rattle.forms.specs.declared.Span.TheVariants.{Absent, At}
 use Rattle.forms.specs.declared.Test.{Test}
 use Rattle.forms.specs.declared.Test.TheVariants.{Nothing, Page, VitalPage, Protection, Count, Anchor, SameAnchor, SameCount, Scope, Kind}
-use Rattle.forms.specs.declared.Service.{Service}
-use Rattle.forms.specs.declared.Service.TheVariants.{Served, Other}
 use Rattle.forms.specs.declared.Code.{Code}
-use Rattle.forms.specs.declared.Entry.{Entry}
-use Rattle.forms.specs.declared.Entry.TheVariants.{Listed, Unlisted}
 use Rattle.forms.specs.declared.Request.{Request}
-use Rattle.forms.specs.Forms.{action_bits, action, lines, entry_for, entry_of, bytes_of, span_bits, asks, list_length_in}
+use Rattle.forms.specs.Forms.{Span, Service, Entry, action_bits, action, lines, entry_for, entry_of, bytes_of, span_bits, asks, list_length_in}
 use Rattle.forms.specs.Tests.{Check, wrong_in, check_rows, is_set, check_of, test_checks, service_checks, code_checks, checks_of, field_rows}
 use Rattle.forms.proofs.Table.{all, obeys, looked_up}
 use Rattle.store.specs.Store.{Store, Call}
@@ -90,8 +85,8 @@ bytes_place (Eight at) = tt
 
 span_place : (size : Span) → T (is_place (span_bits size))
 unfolding span_bits is_place
-span_place Absent = tt
-span_place (At f) = bytes_place f
+span_place None = tt
+span_place (Some f) = bytes_place f
 
 check_place : (t : Test) (size : Span) → T (is_place (check_of t size).bits)
 unfolding check_of is_place
@@ -106,15 +101,20 @@ check_place SameCount size = span_place size
 check_place Scope size = tt
 check_place Kind size = tt
 
+tests_placed : (ts : List Test) (size : Span) → Placed (map (λ t. check_of t size) ts)
+unfolding Placed
+tests_placed [] size = tt
+tests_placed (t ∷ ts) size = (check_place t size, tests_placed ts size)
+
 service_placed : (v : Service) → Placed (service_checks v)
 unfolding service_checks test_checks Placed is_place
-service_placed (Served f) = (check_place f.first f.size, (check_place f.second f.size, (check_place f.third f.size, tt)))
-service_placed Other = (tt, tt)
+service_placed (Some f) = tests_placed f.tests f.size
+service_placed None = (tt, tt)
 
 entry_placed : (e : Entry) → Placed (checks_of e)
 unfolding checks_of code_checks Placed is_place
-entry_placed (Listed code) = (tt, service_placed code.service)
-entry_placed Unlisted = tt
+entry_placed (Some code) = (tt, service_placed code.service)
+entry_placed None = tt
 
 cdb_alike : (l m : List ℕ) → AreBytes l → AreBytes m → entry_of l ≡ entry_of m
     → Alike invalid_field l m (field_rows (entry_of l) l) (field_rows (entry_of m) m)
@@ -245,20 +245,20 @@ list_alike q s c m hl hm = command_pair c m hl hm q.command q s
 
 -- ---- in order
 
-control_first : (l : List ℕ) (code : Code) → entry_of l ≡ Listed code
+control_first : (l : List ℕ) (code : Code) → entry_of l ≡ Some code
     → field_rows (entry_of l) l ≡ invalid_field (within (code.long - 1) 2 1) if bit 2 (byte (code.long - 1) l) ∷ check_rows (service_checks code.service) l
 unfolding field_rows checks_of code_checks check_rows wrong_in is_set number_in bit
 control_first l code e = rw e
 
 unfoldable order_rule : List ℕ → Entry → Bool
-order_rule l (Listed code) = in_order (check_rows (service_checks code.service) l)
-order_rule l Unlisted = true
+order_rule l (Some code) = in_order (check_rows (service_checks code.service) l)
+order_rule l None = true
 
 order_rule_law : (l : List ℕ) → T (order_rule l (entry_of l))
 unfolding entry_of entry_for lines all obeys order_rule service_checks test_checks check_of span_bits bytes_of check_rows in_order precedes_all precedes place_in place_of first_byte top_bit bit_count
-order_rule_law l = looked_up (λ _ e. order_rule l e) (byte 0 l) (action l) Unlisted lines tt tt
+order_rule_law l = looked_up (λ _ e. order_rule l e) (byte 0 l) (action l) None lines tt tt
 
-cdb_order : (l : List ℕ) (code : Code) → entry_of l ≡ Listed code → T (in_order (check_rows (service_checks code.service) l))
+cdb_order : (l : List ℕ) (code : Code) → entry_of l ≡ Some code → T (in_order (check_rows (service_checks code.service) l))
 unfolding order_rule
 cdb_order l code e = subst (λ (x : Entry). T (order_rule l x)) e (order_rule_law l)
 

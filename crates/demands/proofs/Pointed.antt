@@ -10,6 +10,7 @@ use native.Mathlib.Omega.{arith}
 use borrow.Author.Tests.{eq-eqb, ne_eqb}
 use lib.Dec.{T, lit<, eqb, leb, ltb, leb→le, ltb→lt}
 use lib.ListN.{length}
+use Rattle.std.specs.Prelude.{Some, None}
 use Rattle.fields.specs.Field.{byte, bit, field}
 use Rattle.fields.specs.Bits.{Bits, first_byte, top_bit, bit_count, AgreeIn}
 use Rattle.fields.proofs.Tests.{and_l, and_r, true→T, false→T}
@@ -22,9 +23,7 @@ use Rattle.answers.specs.Sense.{detail_of}
 use Rattle.answers.specs.Order.{Row, ◌if◌, first, next, refuses, refusing, first_of, refusing_by}
 use Rattle.answers.proofs.OrderLaws.{row_pass, row_end, next_after, next_refuses, next_refused, not_good}
 use Rattle.forms.specs.declared.Code.{Code}
-use Rattle.forms.specs.declared.Entry.{Entry}
-use Rattle.forms.specs.declared.Entry.TheVariants.{Listed, Unlisted}
-use Rattle.forms.specs.Forms.{entry_of, Asked, nothing, asks, asked_of}
+use Rattle.forms.specs.Forms.{Entry, entry_of, Asked, nothing, asks, asked_of}
 use Rattle.forms.specs.Tests.{is_unlisted, code_rows, length_rows, field_rows}
 use Rattle.forms.proofs.Refusing.{field_refusing}
 use Rattle.store.specs.Store.{Store, Call, usable}
@@ -201,8 +200,8 @@ fields_two cdb =
 -- a CDB of the same length and command comes as far as its fields
 length_same : (e : Entry) (l m : List ℕ) → length m ≡ length l → length_rows e l ≡ length_rows e m
 unfolding length_rows
-length_same (Listed code) l m long = rw long
-length_same Unlisted l m long = refl
+length_same (Some code) l m long = rw long
+length_same None l m long = refl
 
 call_same : (format : ℕ) (c : Call) (cdb : List ℕ) → length cdb ≡ length c.cdb → call_rows format c ≡ call_rows format (with_cdb c cdb)
 unfolding call_rows
@@ -269,7 +268,7 @@ nowhere s c x e d f =
 
 -- ---- what is wrong is told
 
-module _ (s : Store) (c : Call) (h : Heard s c) (code : Code) (e : entry_of c.cdb ≡ Listed code) (l : length c.cdb ≡ code.long)
+module _ (s : Store) (c : Call) (h : Heard s c) (code : Code) (e : entry_of c.cdb ≡ Some code) (l : length c.cdb ≡ code.long)
     (d : Quiet s c) where
   code_passes : code_answer c ≡ Good
   unfolding code_rows is_unlisted

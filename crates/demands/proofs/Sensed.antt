@@ -9,6 +9,7 @@ use native.Mathlib.Nat.{mod-eq_of_lt}
 use borrow.Author.Tests.{ltb-true, ltb-false, lt-ltb, le-ltb, le-leb, lt-leb}
 use lib.Dec.{T, lit<, lit≤, leb, ltb, le→leb}
 use lib.ListN.{length}
+use Rattle.std.specs.Prelude.{Some, None}
 use Rattle.fields.specs.Field.{field}
 use Rattle.fields.specs.Bits.{number_in}
 use Rattle.fields.proofs.Tests.{both, not_map, and_l}
@@ -21,18 +22,16 @@ use Rattle.answers.specs.Answers.{codes_of, number_of, out_of_range, no_room, li
 use Rattle.answers.specs.Order.{Row, ◌if◌, first, next, first_of, refuses}
 use Rattle.answers.specs.Sense.{fixed, descriptor, format_ok, sense_bytes, sense_written}
 use Rattle.answers.proofs.OrderLaws.{next_refuses}
-use Rattle.descriptors.specs.declared.Failing.TheVariants.{At as Told}
+use Rattle.std.specs.Prelude.{Some as Told}
 use Rattle.descriptors.specs.Descriptors.{descriptor_at, data_length_bits, most_descriptors, considered, fails, first_failing, address_of as addressAt, some_fails}
 use Rattle.descriptors.proofs.Takes.{first_here, first_later}
 use Rattle.forms.specs.declared.Field.TheVariants.{Two, Four, Eight}
-use Rattle.forms.specs.declared.Span.{Span}
-use Rattle.forms.specs.declared.Span.TheVariants.{Absent, At}
 use Rattle.forms.specs.declared.Move.{Move}
 use Rattle.forms.specs.declared.Move.TheVariants.{Read, Write, WriteSame, Unmap, Status}
 use Rattle.forms.specs.declared.Command.{Command}
 use Rattle.forms.specs.declared.Command.TheVariants.{Tells, Moves, Alters}
 use Rattle.forms.specs.declared.Request.{Request}
-use Rattle.forms.specs.Forms.{bytes_of, span_bits, number, request_by, Asked, nothing, asks, asked_of, list_length_in}
+use Rattle.forms.specs.Forms.{Span, bytes_of, span_bits, number, request_by, Asked, nothing, asks, asked_of, list_length_in}
 use Rattle.forms.proofs.Fields.{asked_row}
 use Rattle.pool.specs.Pool.{Pool}
 use Rattle.store.specs.Store.{Store, Call, usable}
@@ -285,10 +284,10 @@ module _ (s : Store) (c : Call) (a : Asks Unmap c) (e : number_of (step s c).see
 module _ (cdb : List ℕ) (h : AreBytes cdb) where
   span_below : (span : Span) → number span cdb < 2 ^ 64
   unfolding number span_bits bytes_of number_in field
-  span_below Absent = lit< tt
-  span_below (At (Two at)) = below_64 2 _ (lit≤ tt) (field_below at 2 cdb h)
-  span_below (At (Four at)) = below_64 4 _ (lit≤ tt) (field_below at 4 cdb h)
-  span_below (At (Eight at)) = below_64 8 _ (lit≤ tt) (field_below at 8 cdb h)
+  span_below None = lit< tt
+  span_below (Some (Two at)) = below_64 2 _ (lit≤ tt) (field_below at 2 cdb h)
+  span_below (Some (Four at)) = below_64 4 _ (lit≤ tt) (field_below at 4 cdb h)
+  span_below (Some (Eight at)) = below_64 8 _ (lit≤ tt) (field_below at 8 cdb h)
 
   request_below : (q : Request) → asked_of cdb ≡ asks q → address_in q < 2 ^ 64
   unfolding request_by

@@ -12,6 +12,7 @@ use borrow.Author.Tests.{ne_eqb}
 use lib.Dec.{T, ltb, lit≤}
 use lib.ListN.{length}
 use lib.Seq.{drop_at}
+use Rattle.std.specs.Prelude.{Some}
 use Rattle.fields.specs.Bytes.{zeros}
 use Rattle.fields.specs.Field.{byte, bit, field, bytes}
 use Rattle.fields.specs.Bits.{Bits, number_in}
@@ -28,10 +29,8 @@ use Rattle.forms.specs.declared.Move.TheVariants.{Read, Write, WriteSame, Unmap,
 use Rattle.forms.specs.declared.Command.TheVariants.{Moves}
 use Rattle.forms.specs.declared.Test.TheVariants.{Nothing, Protection, Count}
 use Rattle.forms.specs.declared.Form.{Form}
-use Rattle.forms.specs.declared.Service.TheVariants.{Served}
-use Rattle.forms.specs.declared.Entry.{Entry}
 use Rattle.forms.specs.declared.Request.{Request}
-use Rattle.forms.specs.Forms.{protection_bits, two, four, eight, bytes_of, span_bits, form, action, takes, lines, listed, lookup, entry_for, entry_of, number, request_by, asked_by, asked_in, asked_of, count_in}
+use Rattle.forms.specs.Forms.{Entry, protection_bits, two, four, eight, bytes_of, span_bits, form, action, takes, lines, listed, lookup, entry_for, entry_of, number, request_by, asked_by, asked_in, asked_of, count_in}
 use Rattle.forms.specs.Tests.{code_rows, length_rows, not_zero, wrong_in, check_of, field_rows}
 use Rattle.forms.proofs.Fields.{tests_of}
 use Rattle.store.specs.Store.{Store, Call, Seen, with_pool, leaves, seen_of, with_unit, refused_unit}
@@ -225,16 +224,16 @@ count_in_law code wide gap narrow rest address count h =
     ∙ field_bytes narrow count (zeros rest) ∙ mod-eq_of_lt h
 
 -- a call that asks by a row of the table
-asks_by : (m : Move) (c : Call) (long : ℕ) (f : Form) → entry_of c.cdb ≡ listed long (Served f) → f.command ≡ Moves m → Asks m c
+asks_by : (m : Move) (c : Call) (long : ℕ) (f : Form) → entry_of c.cdb ≡ listed long (Some f) → f.command ≡ Moves m → Asks m c
 unfolding asked_of asked_in asked_by request_by
 asks_by m c long f e k = record { request = request_by f c.cdb; is = ap (λ (x : Entry). asked_in x c.cdb) e; command = k }
 
 -- the rows of the two forms
 abbrev row10 : Move → Entry
-row10 m = listed 10 (Served (form (Moves m) (four 2) (two 7) Protection Count))
+row10 m = listed 10 (Some (form (Moves m) (four 2) (two 7) Protection Count))
 
 abbrev row16 : Move → Entry
-row16 m = listed 16 (Served (form (Moves m) (eight 2) (four 10) Protection Count))
+row16 m = listed 16 (Some (form (Moves m) (eight 2) (four 10) Protection Count))
 
 module _ (s : Store) (nexus address count : ℕ) (data_out data_in sense : List ℕ) (a : address < 256 ^ 4) (n : count < 256 ^ 2) where
   wider : address < 256 ^ 8

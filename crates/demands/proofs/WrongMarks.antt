@@ -13,9 +13,8 @@ use Rattle.pool.specs.Marks.{mark_of, word_of, marked}
 use Rattle.pool.specs.Pool.{place, free}
 use Rattle.pool.proofs.Marking.{ones_word}
 use Rattle.forms.specs.declared.Move.TheVariants.{Write}
-use Rattle.store.specs.declared.Room.{Room}
 use Rattle.store.specs.Store.{Call, usable}
-use Rattle.store.specs.Room.{room_answer, room_of}
+use Rattle.store.specs.Room.{Room, room_answer, room_of}
 use Rattle.demands.specs.History.{call, after, after_event, after_all}
 use Rattle.demands.specs.Contents.{Asks}
 use Rattle.demands.specs.Bench.{block, new, ready, write_10}

@@ -13,16 +13,16 @@ use Rattle.fields.proofs.Tests.{by_equal, by_test, T_true}
 use Rattle.answers.specs.declared.Answer.{Answer}
 use Rattle.answers.specs.declared.Answer.TheVariants.{Good, Conflict, Short}
 use Rattle.answers.specs.Answers.{list_field, list_length}
-use Rattle.answers.specs.Order.{Row, ◌if◌, first, if_good, first_of, if_good_by, refuses}
+use Rattle.std.specs.Prelude.{Result}
+use Rattle.answers.specs.Order.{Row, ◌if◌, first, first_of, if_good_by, refuses}
 use Rattle.answers.proofs.OrderLaws.{row_pass, row_stop, next_after}
 use Rattle.rights.specs.declared.Rights.{Rights}
 use Rattle.rights.specs.declared.Action.{Action}
 use Rattle.rights.specs.declared.Action.TheVariants.{Preempt}
 use Rattle.rights.specs.declared.Parameters.{Parameters}
-use Rattle.rights.specs.declared.Decision.{Decision}
 use Rattle.rights.specs.Places.{registered, key_of, known}
 use Rattle.rights.specs.Rights.{all_hold, with_places, with_reservation, with_generation, held, raised}
-use Rattle.rights.specs.Actions.{service_key_bits, flag_rows, stranger, key_wrong, action_rows, decision_rows, preempting, taking_over, acted, decided}
+use Rattle.rights.specs.Actions.{service_key_bits, flag_rows, stranger, key_wrong, action_rows, decision_rows, preempting, taking_over, acted, decided, unless_refused}
 use Rattle.rights.specs.Told.{keys_data, reservation_data}
 use Rattle.rights.proofs.DecisionLaws.{flags_passed}
 use Rattle.rights.proofs.Keeping.{makes}
@@ -188,8 +188,8 @@ zero_key = record {
 -- ---- what has not moved
 
 -- a decision by these rows
-abbrev decision : List Row → Rights → Rights → Decision
-decision rows done kept = record { answer = first rows; rights = if_good (first rows) done kept }
+abbrev decision : List Row → Rights → Result Rights Answer
+decision rows made = unless_refused (first rows) made
 
 pub rules_agree : RulesAgree
 unfolding decided decision_rows flag_rows key_wrong action_rows acted former former_rows first_of if_good_by refuses
@@ -197,8 +197,8 @@ rules_agree r n o = go (stranger r n o) (eqb o.service 0) (all_hold r.kind) (kno
   where
     go : (x z h k : Bool) → T (not (z && h))
         → decision (Conflict if x ∷ list_field service_key_bits if (z && not h) ∷ Conflict if (not z && not k) ∷ [])
-        (cond z (taking_over r n o.kind) (preempting r n o.kind o.service)) r
-        ≡ decision (Conflict if x ∷ list_field service_key_bits if z ∷ Conflict if not k ∷ []) (preempting r n o.kind o.service) r
+        (cond z (taking_over r n o.kind) (preempting r n o.kind o.service))
+        ≡ decision (Conflict if x ∷ list_field service_key_bits if z ∷ Conflict if not k ∷ []) (preempting r n o.kind o.service)
     go true z h k t = refl
     go false true true k t = absurd t
     go false true false k t = refl

@@ -1,10 +1,8 @@
 -- What a case is, and when a build meets it: all that each call shows is compared, and the whole store in the end.
 -- Assumes nothing.
-use Rattle.std.specs.Prelude.{Bool, true, false, ◌&&◌, List, [], ◌∷◌, ◌++◌, ℕ, eqb, length, drop}
+use Rattle.std.specs.Prelude.{Bool, true, false, ◌&&◌, List, [], ◌∷◌, ◌++◌, ℕ, Option, Some, None, eqb, length, drop}
 use Rattle.fields.specs.Bytes.{zeros}
 use Rattle.fields.specs.Field.{bytes}
-use Rattle.answers.specs.declared.Status.{Status}
-use Rattle.answers.specs.declared.Status.TheVariants.{Given, Nothing}
 use Rattle.answers.specs.Answers.{number_of, status_of}
 use Rattle.pool.specs.Pool.{Pool}
 use Rattle.rights.specs.declared.Place.{Place}
@@ -18,7 +16,7 @@ use Rattle.demands.specs.History.{Build}
 -- answer number, status, the whole sense buffer afterwards, how many bytes return, and the whole data-in buffer afterwards
 pub record Want : Type 0 where
   pub number : ℕ
-  pub status : Status
+  pub status : Option ℕ
   pub sense : List ℕ
   pub returned : ℕ
   pub data_in : List ℕ
@@ -29,17 +27,17 @@ over bs lent = bs ++ drop (length bs) lent
 
 -- GOOD: these bytes return, and sense is as lent
 unfoldable pub good : List ℕ → Call → Want
-good bs c = record { number = 0; status = Given 0x00; sense = c.sense; returned = length bs; data_in = over bs c.data_in }
+good bs c = record { number = 0; status = Some 0x00; sense = c.sense; returned = length bs; data_in = over bs c.data_in }
 
 -- not GOOD: these bytes are laid over sense, and data-in is as lent
-unfoldable pub lays : ℕ → Status → List ℕ → Call → Want
+unfoldable pub lays : ℕ → Option ℕ → List ℕ → Call → Want
 lays number status bs c = record { number = number; status = status; sense = over bs c.sense; returned = 0; data_in = c.data_in }
 
 -- status 02h, and "fixed format: byte 0 70h, byte 2 the key, byte 7 0Ah, bytes 12 and 13 the codes, others 0", but for `response`, byte 0, and
 -- `address`, the four bytes 3 to 6; and for `place`, the three bytes 15 to 17
 unfoldable pub refused_with : ℕ → ℕ → ℕ → ℕ → ℕ → List ℕ → List ℕ → Call → Want
 refused_with n response key asc ascq address place =
-    lays n (Given 0x02) (response ∷ 0 ∷ key ∷ (address ++ (0x0A ∷ 0 ∷ 0 ∷ 0 ∷ 0 ∷ asc ∷ ascq ∷ 0 ∷ place)))
+    lays n (Some 0x02) (response ∷ 0 ∷ key ∷ (address ++ (0x0A ∷ 0 ∷ 0 ∷ 0 ∷ 0 ∷ asc ∷ ascq ∷ 0 ∷ place)))
 
 -- Q-4: "For answers 2 and 5 fill sense bytes 15 to 17 per SPC: byte 15 bit 7 set, bit 6 set for the CDB and clear for the list, bit 3 set, bits 2-0 the
 -- top bit of the field; 16-17 the field's first byte."
@@ -70,11 +68,11 @@ attention_told ascq = refused 13 0x06 0x2A ascq
 
 -- 10, status 18h
 unfoldable pub conflicts : Call → Want
-conflicts = lays 10 (Given 0x18) []
+conflicts = lays 10 (Some 0x18) []
 
 -- 11 or 12, no status
 unfoldable pub no_status : ℕ → Call → Want
-no_status n = lays n Nothing []
+no_status n = lays n None []
 
 -- ---- the comparisons
 
@@ -84,11 +82,11 @@ same [] (y ∷ ys) = false
 same (x ∷ xs) [] = false
 same (x ∷ xs) (y ∷ ys) = eqb x y && same xs ys
 
-unfoldable pub same_status : Status → Status → Bool
-same_status (Given m) (Given n) = eqb m n
-same_status (Given m) Nothing = false
-same_status Nothing (Given n) = false
-same_status Nothing Nothing = true
+unfoldable pub same_status : Option ℕ → Option ℕ → Bool
+same_status (Some m) (Some n) = eqb m n
+same_status (Some m) None = false
+same_status None (Some n) = false
+same_status None None = true
 
 unfoldable pub same_places : List Place → List Place → Bool
 same_places [] [] = true

@@ -1,10 +1,9 @@
 -- No comparison of the checker is idle: for each a checker that leaves it out, and a build or a case that nothing else refuses.
 -- Assumes nothing.
-use Rattle.std.specs.Prelude.{◌≡◌, true, ◌&&◌, List, [], ◌∷◌, ◌++◌, ℕ, ◌-◌, eqb, length, take, drop}
+use Rattle.std.specs.Prelude.{◌≡◌, true, ◌&&◌, List, [], ◌∷◌, ◌++◌, ℕ, ◌-◌, Some, eqb, length, take, drop}
 use Rattle.fields.specs.Bytes.{zeros}
 use Rattle.answers.specs.declared.Answer.{Answer}
 use Rattle.answers.specs.declared.Answer.TheVariants.{Good, Refused, Conflict, Unusable, Short}
-use Rattle.answers.specs.declared.Status.TheVariants.{Given}
 use Rattle.answers.specs.Answers.{number_of, status_of}
 use Rattle.pool.specs.Marks.{marks_of}
 use Rattle.pool.specs.Pool.{Pool, pool}
@@ -103,4 +102,4 @@ highest s c = record { seen = (step (turned_store s) c).seen; store = turned_sto
 -- ---- and a case that is: the number gives the status, so that no build is wrong in the status alone
 
 unfoldable pub case_other_status : Case
-case_other_status = case_still (made (0 ∷ 0 ∷ []) two 6 1 0) (read_10 3 0 1 gives lays 10 (Given 0x02) [] ∷ [])
+case_other_status = case_still (made (0 ∷ 0 ∷ []) two 6 1 0) (read_10 3 0 1 gives lays 10 (Some 0x02) [] ∷ [])

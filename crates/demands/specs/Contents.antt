@@ -1,6 +1,6 @@
 -- Words for what a store holds and for the calls that move it: used by the laws of the commands on the blocks.
 -- Assumes nothing.
-use Rattle.std.specs.Prelude.{◌≡◌, ◌≢◌, Bool, true, false, not, ◌&&◌, ◌||◌, List, [], ◌∷◌, ◌++◌, ℕ, zero, suc, ◌+◌, ◌-◌, ◌≤◌, ◌<◌, T, eqb, leb, ltb, length}
+use Rattle.std.specs.Prelude.{◌≡◌, ◌≢◌, Bool, true, false, not, ◌&&◌, ◌||◌, List, [], ◌∷◌, ◌++◌, ℕ, zero, suc, ◌+◌, ◌-◌, ◌≤◌, ◌<◌, T, eqb, leb, ltb, length, Some, None}
 use Rattle.fields.specs.Bytes.{zeros}
 use Rattle.fields.specs.Field.{byte, bit, bytes}
 use Rattle.fields.specs.Bits.{number_in}
@@ -17,10 +17,8 @@ use Rattle.forms.specs.declared.Move.{Move}
 use Rattle.forms.specs.declared.Move.TheVariants.{Read, Write, WriteSame, Unmap, Status}
 use Rattle.forms.specs.declared.Command.{Command}
 use Rattle.forms.specs.declared.Command.TheVariants.{Moves}
-use Rattle.forms.specs.declared.Entry.{Entry}
-use Rattle.forms.specs.declared.Entry.TheVariants.{Listed, Unlisted}
 use Rattle.forms.specs.declared.Request.{Request}
-use Rattle.forms.specs.Forms.{protection_bits, entry_of, asks, asked_of, count_in, list_length_in}
+use Rattle.forms.specs.Forms.{Entry, protection_bits, entry_of, asks, asked_of, count_in, list_length_in}
 use Rattle.forms.specs.Tests.{code_rows, length_rows, field_rows}
 use Rattle.store.specs.declared.Unit.{Unit}
 use Rattle.store.specs.Store.{Store, Call, Result, usable}
@@ -106,8 +104,8 @@ is_transfer Status = false
 
 -- how long a CDB is, as its code has it
 unfoldable pub long_of : Entry → ℕ
-long_of (Listed code) = code.long
-long_of Unlisted = 0
+long_of (Some code) = code.long
+long_of None = 0
 
 -- the control byte: the CDB's last by its code's length
 abbrev pub control : Call → ℕ

@@ -1,12 +1,11 @@
 -- The three demands, of any build; proofs/Demand1, Demand2 and Demand3 prove them of `step`.
 -- Assumes nothing.
-use Rattle.std.specs.Prelude.{◌≡◌, ◌≢◌, ◌⊎◌, not, cond, List, [], ◌∷◌, ℕ, ◌+◌, ◌*◌, ◌%◌, ◌^◌, T, length, drop, take}
+use Rattle.std.specs.Prelude.{◌≡◌, ◌≢◌, ◌⊎◌, not, cond, List, [], ◌∷◌, ℕ, ◌+◌, ◌*◌, ◌%◌, ◌^◌, Ok, T, length, drop, take}
 use Rattle.fields.specs.Bytes.{zeros}
 use Rattle.answers.specs.declared.Answer.TheVariants.{Good, Unusable}
 use Rattle.answers.specs.Answers.{number_of}
 use Rattle.answers.specs.Sense.{sense_written, sense_after}
 use Rattle.rights.specs.Rights.{is_one_of}
-use Rattle.pool.specs.declared.Checked.TheVariants.{Valid}
 use Rattle.pool.specs.Pool.{read_block}
 use Rattle.pool.specs.Valid.{checked}
 use Rattle.forms.specs.declared.Move.{Move}
@@ -79,8 +78,8 @@ pub record Storage : Type 0 where
   pub forms_agree : (m : Move) → T (is_transfer m) → (s : Store) (c d : Call) (a : Asks m c) (b : Asks m d) → SaysSame a b
       → SameButPlace (step s c) (step s d)
   -- "no two slots name one block": a map with a slot beyond the capacity or a clash is refused, and every usable store's passes its check
-  pub clash_refused : (s : Store) (c : Call) → checked s.unit.capacity s.pool.owners ≢ Valid → (step s c).seen.answer ≡ Unusable
-  pub usable_checked : (s : Store) → T (usable s) → checked s.unit.capacity s.pool.owners ≡ Valid
+  pub clash_refused : (s : Store) (c : Call) → checked s.unit.capacity s.pool.owners ≢ Ok tt → (step s c).seen.answer ≡ Unusable
+  pub usable_checked : (s : Store) → T (usable s) → checked s.unit.capacity s.pool.owners ≡ Ok tt
 
 -- Demand 3. What a nexus learns that is shut out from reading.
 pub record Demand3 (f : Build) : Type 0 where

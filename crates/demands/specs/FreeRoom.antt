@@ -14,7 +14,7 @@ use Rattle.pool.specs.Valid.{map_ok, slots_ok}
 use Rattle.forms.specs.declared.Move.TheVariants.{Write}
 use Rattle.forms.specs.declared.Request.{Request}
 use Rattle.forms.specs.Forms.{count_in}
-use Rattle.store.specs.declared.Room.{Room}
+use Rattle.store.specs.Room.{Room}
 use Rattle.store.specs.Store.{Store, Call, unit_ok, usable}
 use Rattle.ridge.specs.Interface.{roomed, leaves_room}
 use Rattle.demands.specs.History.{Event, Build, after, machine, after_all}

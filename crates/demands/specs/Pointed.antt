@@ -1,7 +1,7 @@
 -- Which byte is wrong, as those put it who serve the store: "Support cannot see which field 05/24/00 means." What a refusal points at is read from
 -- its sense as a host reads it, and what it says is said of calls. Of any build, so that wrong ones can be put in; proofs/Pointed proves it of `step`.
 -- Assumes nothing.
-use Rattle.std.specs.Prelude.{◌≡◌, ◌≢◌, Bool, true, false, ◌&&◌, ◌||◌, List, [], ◌∷◌, ℕ, ◌+◌, ◌*◌, ◌-◌, ◌/◌, ◌%◌, ◌≤◌, ◌<◌, T, eqb, ltb, length}
+use Rattle.std.specs.Prelude.{◌≡◌, ◌≢◌, Bool, true, false, ◌&&◌, ◌||◌, List, [], ◌∷◌, ℕ, ◌+◌, ◌*◌, ◌-◌, ◌/◌, ◌%◌, ◌≤◌, ◌<◌, T, eqb, ltb, length, Some}
 use Rattle.fields.specs.Field.{field, byte, bit}
 use Rattle.fields.specs.Bits.{Bits, within, first_byte, top_bit, bit_count, AgreeIn}
 use Rattle.answers.specs.declared.Refusal.{Refusal}
@@ -11,7 +11,6 @@ use Rattle.answers.specs.declared.Answer.TheVariants.{Good, Refused, Conflict, U
 use Rattle.answers.specs.Answers.{number_of, invalid_field, list_field}
 use Rattle.answers.specs.Order.{Row, ◌if◌, first, refuses}
 use Rattle.forms.specs.declared.Code.{Code}
-use Rattle.forms.specs.declared.Entry.TheVariants.{Listed}
 use Rattle.forms.specs.declared.Request.{Request}
 use Rattle.forms.specs.Forms.{entry_of, action_bits, asks, asked_of}
 use Rattle.forms.specs.Tests.{check_rows, service_checks, field_rows}
@@ -56,7 +55,7 @@ pub record Pointed (f : Build) : Type 0 where
   pub first_in_cdb : (s : Store) (c : Call) → number_of (f s c).seen.answer ≡ 2 → (f s c).seen.answer ≡ first (field_rows (entry_of c.cdb) c.cdb)
   pub first_in_list : (s : Store) (c : Call) → number_of (f s c).seen.answer ≡ 5 → (f s c).seen.answer ≡ first (own_rows (asked_of c.cdb) s c)
   -- and so it is answered, where a call comes as far as its fields, or as far as its list
-  pub cdb_due : (s : Store) (c : Call) → Heard s c → (code : Code) → entry_of c.cdb ≡ Listed code → length c.cdb ≡ code.long → Quiet s c
+  pub cdb_due : (s : Store) (c : Call) → Heard s c → (code : Code) → entry_of c.cdb ≡ Some code → length c.cdb ≡ code.long → Quiet s c
       → (b : Bits) → first (field_rows (entry_of c.cdb) c.cdb) ≡ invalid_field b → (f s c).seen.answer ≡ invalid_field b
   pub list_due : (s : Store) (c : Call) → T (usable s) → by_itself s.format c ≡ Good → Quiet s c → first (guard_rows (asked_of c.cdb) s.unit.rights c.nexus) ≡ Good
       → (b : Bits) → first (own_rows (asked_of c.cdb) s c) ≡ list_field b → (f s c).seen.answer ≡ list_field b
@@ -144,8 +143,8 @@ pub record PlacesTrue : Type 0 where
   pub list : (q : Request) (s : Store) (c : Call) (m : List ℕ) → AreBytes c.data_out → AreBytes m
       → Alike list_field c.data_out m (own_rows (asks q) s c) (own_rows (asks q) s (with_list c m))
   -- NACA of the control byte comes first
-  pub control_first : (l : List ℕ) (code : Code) → entry_of l ≡ Listed code
+  pub control_first : (l : List ℕ) (code : Code) → entry_of l ≡ Some code
       → field_rows (entry_of l) l ≡ invalid_field (within (code.long - 1) 2 1) if bit 2 (byte (code.long - 1) l) ∷ check_rows (service_checks code.service) l
   -- behind it the fields of one row stand by lowest byte, then highest bit
-  pub cdb_order : (l : List ℕ) (code : Code) → entry_of l ≡ Listed code → T (in_order (check_rows (service_checks code.service) l))
+  pub cdb_order : (l : List ℕ) (code : Code) → entry_of l ≡ Some code → T (in_order (check_rows (service_checks code.service) l))
   pub list_order : (q : Request) (s : Store) (c : Call) → T (in_order (own_rows (asks q) s c))

@@ -1,9 +1,8 @@
 -- Cases of sense data in both formats, each byte of which is written out.
 -- Assumes nothing.
-use Rattle.std.specs.Prelude.{List, [], ◌∷◌, ◌++◌, ℕ, ◌+◌, ◌-◌, ◌^◌}
+use Rattle.std.specs.Prelude.{List, [], ◌∷◌, ◌++◌, ℕ, Some, ◌+◌, ◌-◌, ◌^◌}
 use Rattle.fields.specs.Bytes.{zeros}
 use Rattle.fields.specs.Field.{bytes}
-use Rattle.answers.specs.declared.Status.TheVariants.{Given}
 use Rattle.answers.specs.Sense.{descriptor}
 use Rattle.store.specs.Store.{Store, Call}
 use Rattle.demands.specs.Checker.{Want, good, lays, refused, past_end_at, no_status, Case, ◌gives◌}
@@ -15,24 +14,24 @@ use Rattle.demands.specs.Cases.{case_still, case_new}
 -- 3, and 8, with "an information descriptor (type 00h, length 0Ah)"
 unfoldable pub past_end_told : ℕ → Call → Want
 past_end_told address =
-    lays 3 (Given 0x02) (0x72 ∷ 0x05 ∷ 0x21 ∷ 0x00 ∷ 0 ∷ 0 ∷ 0 ∷ 0x0C ∷ 0x00 ∷ 0x0A ∷ 0x80 ∷ 0x00 ∷ bytes 8 address)
+    lays 3 (Some 0x02) (0x72 ∷ 0x05 ∷ 0x21 ∷ 0x00 ∷ 0 ∷ 0 ∷ 0 ∷ 0x0C ∷ 0x00 ∷ 0x0A ∷ 0x80 ∷ 0x00 ∷ bytes 8 address)
 
 unfoldable pub no_room_told : ℕ → Call → Want
 no_room_told address =
-    lays 8 (Given 0x02) (0x72 ∷ 0x07 ∷ 0x27 ∷ 0x07 ∷ 0 ∷ 0 ∷ 0 ∷ 0x0C ∷ 0x00 ∷ 0x0A ∷ 0x80 ∷ 0x00 ∷ bytes 8 address)
+    lays 8 (Some 0x02) (0x72 ∷ 0x07 ∷ 0x27 ∷ 0x07 ∷ 0 ∷ 0 ∷ 0 ∷ 0x0C ∷ 0x00 ∷ 0x0A ∷ 0x80 ∷ 0x00 ∷ bytes 8 address)
 
 -- 2, and 5, with "Q-4's place alone (type 02h, length 06h)"
 unfoldable pub field_told : ℕ → ℕ → Call → Want
 field_told mark at =
-    lays 2 (Given 0x02) (0x72 ∷ 0x05 ∷ 0x24 ∷ 0x00 ∷ 0 ∷ 0 ∷ 0 ∷ 0x08 ∷ 0x02 ∷ 0x06 ∷ 0 ∷ 0 ∷ mark ∷ 0 ∷ at ∷ 0 ∷ [])
+    lays 2 (Some 0x02) (0x72 ∷ 0x05 ∷ 0x24 ∷ 0x00 ∷ 0 ∷ 0 ∷ 0 ∷ 0x08 ∷ 0x02 ∷ 0x06 ∷ 0 ∷ 0 ∷ mark ∷ 0 ∷ at ∷ 0 ∷ [])
 
 unfoldable pub list_told : ℕ → ℕ → Call → Want
 list_told mark at =
-    lays 5 (Given 0x02) (0x72 ∷ 0x05 ∷ 0x26 ∷ 0x00 ∷ 0 ∷ 0 ∷ 0 ∷ 0x08 ∷ 0x02 ∷ 0x06 ∷ 0 ∷ 0 ∷ mark ∷ 0 ∷ at ∷ 0 ∷ [])
+    lays 5 (Some 0x02) (0x72 ∷ 0x05 ∷ 0x26 ∷ 0x00 ∷ 0 ∷ 0 ∷ 0 ∷ 0x08 ∷ 0x02 ∷ 0x06 ∷ 0 ∷ 0 ∷ mark ∷ 0 ∷ at ∷ 0 ∷ [])
 
 -- all others: "the 8 header bytes" alone
 unfoldable pub head_told : ℕ → ℕ → ℕ → ℕ → Call → Want
-head_told n key asc ascq = lays n (Given 0x02) (0x72 ∷ key ∷ asc ∷ ascq ∷ 0 ∷ 0 ∷ 0 ∷ 0 ∷ [])
+head_told n key asc ascq = lays n (Some 0x02) (0x72 ∷ key ∷ asc ∷ ascq ∷ 0 ∷ 0 ∷ 0 ∷ 0 ∷ [])
 
 -- ---- stores and calls
 

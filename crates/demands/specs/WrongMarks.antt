@@ -4,9 +4,8 @@ use Rattle.std.specs.Prelude.{cond, List, [], ◌∷◌, ℕ, ◌-◌, ◌%◌, 
 use Rattle.fields.specs.Field.{byte}
 use Rattle.pool.specs.Marks.{marked, lowest}
 use Rattle.pool.specs.Pool.{pool}
-use Rattle.store.specs.declared.Room.{Room}
 use Rattle.store.specs.Store.{Store, Call, with_pool}
-use Rattle.store.specs.Room.{room_of}
+use Rattle.store.specs.Room.{Room, room_of}
 use Rattle.store.specs.Step.{step}
 use Rattle.demands.specs.History.{Build}
 use Rattle.demands.specs.Bench.{new, places, made, unmap_1}

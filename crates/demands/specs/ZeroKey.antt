@@ -1,21 +1,20 @@
 -- PREEMPT with the service action key 0, as those put it who use it: two loggers of a pair take over from a dead third. What it is answered and what it
 -- leaves, of any build, so that wrong ones can be put in; what has not moved beside it; and the whole story from a fresh store.
 -- Assumes nothing.
-use Rattle.std.specs.Prelude.{◌≡◌, ◌↔◌, ◌≢◌, Bool, not, ◌&&◌, cond, List, [], ◌∷◌, ◌++◌, map, ℕ, ◌+◌, ◌%◌, ◌^◌, ◌≤◌, T, eqb, length, take}
+use Rattle.std.specs.Prelude.{◌≡◌, ◌↔◌, ◌≢◌, Bool, not, ◌&&◌, cond, List, [], ◌∷◌, ◌++◌, map, ℕ, ◌+◌, ◌%◌, ◌^◌, ◌≤◌, T, Result, eqb, length, take}
 use Rattle.fields.specs.Bytes.{zeros}
 use Rattle.fields.specs.Field.{field, bytes}
 use Rattle.answers.specs.declared.Answer.{Answer}
 use Rattle.answers.specs.declared.Answer.TheVariants.{Good, Conflict}
 use Rattle.answers.specs.Answers.{list_field}
-use Rattle.answers.specs.Order.{Row, ◌if◌, first, if_good}
+use Rattle.answers.specs.Order.{Row, ◌if◌, first}
 use Rattle.rights.specs.declared.Rights.{Rights}
 use Rattle.rights.specs.declared.Action.{Action}
 use Rattle.rights.specs.declared.Action.TheVariants.{Register, Reserve, Preempt}
 use Rattle.rights.specs.declared.Parameters.{Parameters}
-use Rattle.rights.specs.declared.Decision.{Decision}
 use Rattle.rights.specs.Places.{known}
 use Rattle.rights.specs.Rights.{all_hold}
-use Rattle.rights.specs.Actions.{service_key_bits, flag_rows, stranger, preempting, decided}
+use Rattle.rights.specs.Actions.{service_key_bits, flag_rows, stranger, preempting, decided, unless_refused}
 use Rattle.forms.specs.declared.Tell.TheVariants.{Keys, Reservation}
 use Rattle.forms.specs.declared.Move.{Move}
 use Rattle.forms.specs.declared.Command.TheVariants.{Tells, Alters}
@@ -97,9 +96,8 @@ pub record ZeroKey (f : Build) : Type 0 where
 unfoldable pub former_rows : Rights → ℕ → Parameters → List Row
 former_rows r n o = Conflict if stranger r n o ∷ list_field service_key_bits if eqb o.service 0 ∷ Conflict if not (known o.service r.places) ∷ []
 
-unfoldable pub former : Rights → ℕ → Parameters → Decision
-former r n o =
-    record { answer = first (former_rows r n o); rights = if_good (first (former_rows r n o)) (preempting r n o.kind o.service) r }
+unfoldable pub former : Rights → ℕ → Parameters → Result Rights Answer
+former r n o = unless_refused (first (former_rows r n o)) (preempting r n o.kind o.service)
 
 -- the two rules decide alike but for a zero key under types 7 and 8: a key that is not 0 does what it did
 abbrev pub RulesAgree : Type 0

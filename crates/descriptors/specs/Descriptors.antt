@@ -1,12 +1,11 @@
 -- The UNMAP parameter list: "The descriptors are taken one after another from the list as lent."
 -- Assumes nothing.
-use Rattle.std.specs.Prelude.{Bool, true, false, ◌||◌, cond, List, ℕ, zero, suc, ◌+◌, ◌-◌, ◌/◌, min, ltb}
+use Rattle.std.specs.Prelude.{Bool, false, ◌||◌, cond, List, ℕ, zero, suc, ◌+◌, ◌-◌, ◌/◌, min, ltb, Option, Some, None}
 use Rattle.fields.specs.Field.{field}
 use Rattle.fields.specs.Bits.{Bits, whole, number_in}
+use Rattle.pool.specs.declared.Lba.{Lba}
 use Rattle.pool.specs.Pool.{unmap_owners}
 use Rattle.descriptors.specs.declared.Descriptor.{Descriptor}
-use Rattle.descriptors.specs.declared.Failing.{Failing}
-use Rattle.descriptors.specs.declared.Failing.TheVariants.{At, Nothing}
 
 -- "16 bytes each: address 0-7, count 8-11": the descriptor from byte `at` of the list on
 unfoldable pub descriptor_at : List ℕ → ℕ → Descriptor
@@ -29,20 +28,15 @@ abbrev pub most_descriptors : ℕ
 most_descriptors = 16
 
 -- "3 if any descriptor fails": the address of the first that does, in the order of the list, of the n from byte `at` on
-unfoldable pub first_failing : ℕ → List ℕ → ℕ → ℕ → Failing
-first_failing capacity list at zero = Nothing
+unfoldable pub first_failing : ℕ → List ℕ → ℕ → ℕ → Option Lba
+first_failing capacity list at zero = None
 first_failing capacity list at (suc n) =
-    cond (fails capacity (descriptor_at list at)) (At (descriptor_at list at).address) (first_failing capacity list (at + 16) n)
+    cond (fails capacity (descriptor_at list at)) (Some (descriptor_at list at).address) (first_failing capacity list (at + 16) n)
 
 -- Q-8: "or for UNMAP that of the first failing descriptor": its address; 0 where none fails
-unfoldable pub address_of : Failing → ℕ
-address_of (At address) = address.0
-address_of Nothing = 0
-
--- whether one is told
-unfoldable pub is_at : Failing → Bool
-is_at (At address) = true
-is_at Nothing = false
+unfoldable pub address_of : Option Lba → ℕ
+address_of (Some address) = address.0
+address_of None = 0
 
 -- "if any descriptor fails", of the n from byte `at` on
 unfoldable pub some_fails : ℕ → List ℕ → ℕ → ℕ → Bool

@@ -1,13 +1,14 @@
 -- Laws of bytes in lent buffers: `put`, `part`, `zeros`, `are_zeros`.
 -- Assumes nothing.
 use mathlib.Core.Path.{◌≡◌, refl, sym, ap, ap₂, ◌∙◌}
-use mathlib.Core.Bool.{true, ◌&&◌}
+use mathlib.Core.Bool.{Bool, true, ◌&&◌}
 use mathlib.Core.List.{List, [], ◌∷◌, ◌++◌}
 use Prim.Native.Nat.{ℕ, zero, suc, ◌+◌, ◌≤◌}
 use native.Mathlib.Omega.{arith}
 use native.Mathlib.Nat.{zero-add, suc-add}
 use lib.Dec.{eqb, eqb→eq}
 use lib.ListN.{length, take, drop, replicate, length-take, length-drop}
+use Rattle.std.specs.List.{list_all}
 use Rattle.fields.specs.Bytes.{part, put, zeros, are_zeros}
 use Rattle.fields.proofs.Tests.{and_l, and_r, true→T, T_true}
 
@@ -40,6 +41,12 @@ are_zeros_is (x ∷ xs) e =
     let t = true→T (eqb x 0 && are_zeros xs) e in
     ap₂ (λ (y : ℕ) (l : List ℕ). y ∷ l) (eqb→eq x 0 (and_l (eqb x 0) (are_zeros xs) t))
     (are_zeros_is xs (T_true (are_zeros xs) (and_r (eqb x 0) (are_zeros xs) t)))
+
+-- all of them, as an iterator tells it
+pub all_zeros : (l : List ℕ) → list_all (λ x. eqb x 0) l ≡ are_zeros l
+unfolding are_zeros
+all_zeros [] = refl
+all_zeros (x ∷ xs) = ap (λ (t : Bool). eqb x 0 && t) (all_zeros xs)
 
 -- ---- put
 

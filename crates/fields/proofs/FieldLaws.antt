@@ -1,15 +1,16 @@
 -- Laws of numbers in bytes, each once over the width.
 -- Assumes nothing.
-use mathlib.Core.Path.{◌≡◌, refl, sym, ap, ◌∙◌}
+use mathlib.Core.Path.{◌≡◌, refl, sym, ap, ap₂, ◌∙◌}
 use mathlib.Core.List.{List, ◌∷◌, ◌++◌}
-use Prim.Native.Nat.{ℕ, zero, suc, ◌+◌, ◌*◌, ◌/◌, ◌%◌, ◌^◌, ◌≤◌, ◌<◌}
-use native.Mathlib.Nat.{add-zero, zero-add, add_assoc, mul-one, mul_comm, mod-one, one-le-pow, pow-suc, pow-le-pow_right, lt_of_lt_of_le}
+use Prim.Native.Nat.{ℕ, zero, suc, ◌+◌, ◌-◌, ◌*◌, ◌/◌, ◌%◌, ◌^◌, ◌≤◌, ◌<◌}
+use native.Mathlib.Nat.{div-one, add-zero, zero-add, suc-add, add_assoc, mul-one, mul_comm, mod-one, one-le-pow, pow-suc, pow-le-pow_right, lt_of_lt_of_le}
 use native.Mathlib.Numerals.{add-one}
 use native.Mathlib.Omega.{arith}
 use lib.Arith.{mod-mul}
 use lib.Dec.{lit<}
-use lib.ListN.{length, drop}
-use lib.Seq.{get_or-drop}
+use lib.ListN.{length, take, drop}
+use lib.Seq.{get_or-drop, take_all}
+use Rattle.std.specs.Int.{w64, byte_at, bytes_high_first, to_be_bytes}
 use Rattle.fields.specs.Field.{byte, field, bytes}
 
 -- one byte more
@@ -40,10 +41,32 @@ field_drop k i (suc n) l = rw (field_drop k i n l, get_or-drop k l (i + n) 0, ad
 
 -- ---- a number's bytes
 
+-- those that std's methods give, of every width
+be_bytes : (n x : ℕ) → bytes_high_first n x ≡ bytes n x
+unfolding bytes
+be_bytes zero x = refl
+be_bytes (suc n) x = ap₂ (λ (b : ℕ) (l : List ℕ). b ∷ l) (be_byte n x) (be_bytes n x)
+  where
+    be_byte : (i n : ℕ) → byte_at i n ≡ n / 256 ^ i % 256
+    be_byte zero n = ap (λ (q : ℕ). q % 256) (sym (div-one n))
+    be_byte (suc i) n = refl
+
+drop_bytes : (m n x : ℕ) → drop m (bytes (m + n) x) ≡ bytes n x
+unfolding bytes
+drop_bytes zero n x = rw zero-add refl
+drop_bytes (suc m) n x = rw suc-add (drop_bytes m n x)
+
 pub length_bytes : (n x : ℕ) → length (bytes n x) ≡ n
 unfolding bytes
 length_bytes zero x = refl
 length_bytes (suc n) x = ap suc (length_bytes n x)
+
+-- the last n of eight
+pub last_bytes : (n x : ℕ) → n ≤ 8 → take (8 - (8 - n)) (drop (8 - n) (to_be_bytes w64 x)) ≡ bytes n x
+last_bytes n x h =
+    let e : 8 ≡ 8 - n + n = omega arith in
+    let d : drop (8 - n) (to_be_bytes w64 x) ≡ bytes n x = ap (drop (8 - n)) (be_bytes 8 x ∙ ap (λ (k : ℕ). bytes k x) e) ∙ drop_bytes (8 - n) n x in
+    ap (take (8 - (8 - n))) d ∙ take_all (8 - (8 - n)) (bytes n x) (omega (arith, length_bytes n x))
 
 -- the first byte counts most
 field_front : (i n : ℕ) (l : List ℕ) → field i (suc n) l ≡ byte i l * 256 ^ n + field (i + 1) n l

@@ -1,5 +1,6 @@
-// Numbers in bytes, most significant first, and bytes in lent buffers.
+// Numbers in bytes, most significant first, bytes in lent buffers, and pages that grow.
 #![tactic(auto)]
 
 pub mod bytes;
 pub mod numbers;
+pub mod page;

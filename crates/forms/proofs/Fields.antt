@@ -1,12 +1,13 @@
 -- What a request says whose fields are right: at most 128 blocks where it counts them, one of the six types where it makes a reservation.
 -- Assumes nothing.
 use mathlib.Core.Path.{◌≡◌, refl, sym, ap, ◌∙◌, subst}
-use mathlib.Core.Bool.{Bool, true, false, not, ◌&&◌, ◌||◌, true≢false}
-use mathlib.Core.List.{List, [], ◌∷◌}
+use mathlib.Core.Bool.{Bool, true, false, not, ◌&&◌, ◌||◌}
+use mathlib.Core.List.{List, [], ◌∷◌, map}
 use Prim.Native.Nat.{ℕ, zero, suc, ◌≤◌}
 use native.Mathlib.Omega.{arith}
 use borrow.Author.Tests.{ltb-false}
 use lib.Dec.{T, eqb, eqb→eq}
+use Rattle.std.specs.Prelude.{Some, None}
 use Rattle.fields.specs.Field.{byte}
 use Rattle.fields.specs.Bits.{number_in}
 use Rattle.fields.proofs.Tests.{and_l, and_r, nor_r, or_other, not_not, not_not_intro, test, by_equal, false→T, T_false}
@@ -23,14 +24,10 @@ use Rattle.forms.specs.declared.Command.TheVariants.{Tells, Moves, Alters}
 use Rattle.forms.specs.declared.Test.{Test}
 use Rattle.forms.specs.declared.Test.TheVariants.{Nothing, Page, VitalPage, Protection, Count, Anchor, SameAnchor, SameCount, Scope, Kind}
 use Rattle.forms.specs.declared.Form.{Form}
-use Rattle.forms.specs.declared.Service.{Service}
-use Rattle.forms.specs.declared.Service.TheVariants.{Served, Other}
-use Rattle.forms.specs.declared.Entry.{Entry}
-use Rattle.forms.specs.declared.Entry.TheVariants.{Listed, Unlisted}
 use Rattle.forms.specs.declared.Request.{Request}
-use Rattle.forms.specs.Forms.{lines, listed, entry_for, entry_of, action, number, kind_bits, request_by, Asked, nothing, asks, asked_by, asked_in, asked_of}
+use Rattle.forms.specs.Forms.{Span, Service, Entry, lines, listed, entry_for, entry_of, action, number, kind_bits, request_by, asks, asked_by, asked_in, asked_of}
 use Rattle.forms.specs.Tests.{Check, wrong_in, check_rows, check_of, test_checks, control_check, service_checks, code_checks, checks_of, field_rows}
-use Rattle.forms.proofs.Table.{all, obeys, looked_up, service_rule, row_rule, is_nothing, long_rule, long_rule_law}
+use Rattle.forms.proofs.Table.{all, obeys, looked_up, service_rule, row_rule, long_rule, long_rule_law}
 
 -- ---- the row by which a request is read
 
@@ -38,23 +35,19 @@ use Rattle.forms.proofs.Table.{all, obeys, looked_up, service_rule, row_rule, is
 pub record Row (e : Entry) (cdb : List ℕ) (r : Request) : Type 0 where
   pub long : ℕ
   pub form : Form
-  pub entry : e ≡ listed long (Served form)
+  pub entry : e ≡ listed long (Some form)
   pub request : request_by form cdb ≡ r
 
-unfoldable request_in : Asked → Request → Request
-request_in nothing r = r
-request_in (asks q) r = q
-
 service_row : (long : ℕ) (v : Service) (cdb : List ℕ) (r : Request) → asked_by v cdb ≡ asks r → Row (listed long v) cdb r
-unfolding asked_by request_in is_nothing
-service_row long (Served f) cdb r e = record { long = long; form = f; entry = refl; request = ap (λ (x : Asked). request_in x r) e }
-service_row long Other cdb r e = absurd (true≢false (ap is_nothing e))
+unfolding asked_by
+service_row long (Some f) cdb r e = record { long = long; form = f; entry = refl; request = cc }
+service_row long None cdb r e = cc
 
 -- what is asked for has a row
 pub row_of : (e : Entry) (cdb : List ℕ) (r : Request) → asked_in e cdb ≡ asks r → Row e cdb r
-unfolding asked_in asked_by is_nothing
-row_of (Listed code) cdb r e = service_row code.long code.service cdb r e
-row_of Unlisted cdb r e = absurd (true≢false (ap is_nothing e))
+unfolding asked_in
+row_of (Some code) cdb r e = service_row code.long code.service cdb r e
+row_of None cdb r e = cc
 
 -- ---- which tests a row has
 
@@ -103,6 +96,35 @@ same_test_law : (t u : Test) → T (same_test t u) → t ≡ u
 unfolding same_test
 same_test_law t u h = sym (test_back t) ∙ ap test_of (eqb→eq (test_number t) (test_number u) h) ∙ test_back u
 
+-- do two rows have the same tests
+unfoldable same_tests : List Test → List Test → Bool
+same_tests [] [] = true
+same_tests [] (u ∷ us) = false
+same_tests (t ∷ ts) [] = false
+same_tests (t ∷ ts) (u ∷ us) = same_test t u && same_tests ts us
+
+same_tests_law : (ts us : List Test) → T (same_tests ts us) → ts ≡ us
+unfolding same_tests
+same_tests_law [] [] h = refl
+same_tests_law [] (u ∷ us) h = absurd h
+same_tests_law (t ∷ ts) [] h = absurd h
+same_tests_law (t ∷ ts) (u ∷ us) h =
+    rw (same_test_law t u (and_l (same_test t u) (same_tests ts us) h), same_tests_law ts us (and_r (same_test t u) (same_tests ts us) h))
+
+-- is a test one of these
+unfoldable has_test : Test → List Test → Bool
+has_test t [] = false
+has_test t (u ∷ us) = same_test u t || has_test t us
+
+-- where all of them pass, so does each
+test_right : (size : Span) (cdb : List ℕ) (ts : List Test) → first (check_rows (map (λ t. check_of t size) ts) cdb) ≡ Good
+    → (t : Test) → T (has_test t ts) → wrong_in (check_of t size) cdb ≡ false
+unfolding has_test check_rows refuses
+test_right size cdb [] good t h = absurd h
+test_right size cdb (u ∷ us) good t h =
+    test (same_test u t) (λ e. rw (same_test_law u t e) at (row_fails _ _ _ tt good))
+    (λ e. test_right size cdb us (rows_after _ _ _ tt good) t (or_other (same_test u t) (has_test t us) e h))
+
 -- commands that count blocks: READ and WRITE, and WRITE SAME
 unfoldable pub is_counted : Command → Bool
 is_counted (Tells t) = false
@@ -130,7 +152,7 @@ of_these P Q f = not (P f.command) || Q f
 
 -- a row with these three tests
 unfoldable tests_are : Test → Test → Test → Form → Bool
-tests_are x y z f = same_test f.first x && (same_test f.second y && same_test f.third z)
+tests_are x y z f = same_tests f.tests (x ∷ y ∷ z ∷ [])
 
 -- the fields that each command on the blocks tests
 unfoldable pub tests_of : Move → Test × Test × Test
@@ -147,23 +169,23 @@ command_tests (Alters a) f = true
 
 -- each command that counts blocks tests the count
 unfoldable count_tests : Form → Bool
-count_tests f = same_test f.second Count || same_test f.third SameCount
+count_tests f = has_test Count f.tests || has_test SameCount f.tests
 
--- RESERVE and PREEMPT test their type behind the scope
+-- RESERVE and PREEMPT test their type
 unfoldable maker_tests : Form → Bool
-maker_tests f = same_test f.second Kind
+maker_tests f = has_test Kind f.tests
 
 move_rule : (cdb : List ℕ) → T (row_rule (λ f. command_tests f.command f) (entry_of cdb))
-unfolding entry_of entry_for lines row_rule service_rule command_tests tests_of tests_are same_test test_number all obeys
-move_rule cdb = looked_up (λ _ e. row_rule (λ f. command_tests f.command f) e) (byte 0 cdb) (action cdb) Unlisted lines tt tt
+unfolding entry_of entry_for lines row_rule service_rule command_tests tests_of tests_are same_tests same_test test_number all obeys
+move_rule cdb = looked_up (λ _ e. row_rule (λ f. command_tests f.command f) e) (byte 0 cdb) (action cdb) None lines tt tt
 
 count_rule : (cdb : List ℕ) → T (row_rule (of_these is_counted count_tests) (entry_of cdb))
-unfolding entry_of entry_for lines row_rule service_rule of_these is_counted count_tests same_test test_number all obeys
-count_rule cdb = looked_up (λ _ e. row_rule (of_these is_counted count_tests) e) (byte 0 cdb) (action cdb) Unlisted lines tt tt
+unfolding entry_of entry_for lines row_rule service_rule of_these is_counted count_tests has_test same_test test_number all obeys
+count_rule cdb = looked_up (λ _ e. row_rule (of_these is_counted count_tests) e) (byte 0 cdb) (action cdb) None lines tt tt
 
 maker_rule : (cdb : List ℕ) → T (row_rule (of_these is_maker maker_tests) (entry_of cdb))
-unfolding entry_of entry_for lines row_rule service_rule of_these is_maker makes maker_tests same_test test_number all obeys
-maker_rule cdb = looked_up (λ _ e. row_rule (of_these is_maker maker_tests) e) (byte 0 cdb) (action cdb) Unlisted lines tt tt
+unfolding entry_of entry_for lines row_rule service_rule of_these is_maker makes maker_tests has_test same_test test_number all obeys
+maker_rule cdb = looked_up (λ _ e. row_rule (of_these is_maker maker_tests) e) (byte 0 cdb) (action cdb) None lines tt tt
 
 module _ (cdb : List ℕ) (r : Request) (w : Row (entry_of cdb) cdb r) where
   row_command : w.form.command ≡ r.command
@@ -196,23 +218,9 @@ module _ (cdb : List ℕ) (r : Request) (w : Row (entry_of cdb) cdb r) where
 
   -- all that can be wrong with the fields of such a row
   module _ (x y z : Test) (t : T (tests_are x y z w.form)) where
-    tests_first : w.form.first ≡ x
-    unfolding tests_are
-    tests_first = same_test_law _ _ (and_l (same_test w.form.first x) _ t)
-
-    tests_others : T (same_test w.form.second y && same_test w.form.third z)
-    unfolding tests_are
-    tests_others = and_r (same_test w.form.first x) _ t
-
-    tests_second : w.form.second ≡ y
-    tests_second = same_test_law _ _ (and_l (same_test w.form.second y) (same_test w.form.third z) tests_others)
-
-    tests_third : w.form.third ≡ z
-    tests_third = same_test_law _ _ (and_r (same_test w.form.second y) (same_test w.form.third z) tests_others)
-
     tests_checks : checks_of (entry_of cdb) ≡ field_checks x y z
-    unfolding checks_of code_checks service_checks test_checks
-    tests_checks = ap checks_of w.entry ∙ rw (tests_first, tests_second, tests_third)
+    unfolding checks_of code_checks service_checks test_checks tests_are
+    tests_checks = ap checks_of w.entry ∙ rw (same_tests_law w.form.tests (x ∷ y ∷ z ∷ []) t)
 
   -- with those of a command on the blocks
   pub move_checks : (m : Move) → r.command ≡ Moves m → checks_of (entry_of cdb) ≡ field_checks (tests_of m).0 (tests_of m).1 (tests_of m).2
@@ -222,10 +230,6 @@ module _ (cdb : List ℕ) (r : Request) (w : Row (entry_of cdb) cdb r) where
       (subst (λ (k : Command). T (command_tests k w.form)) (row_command ∙ e)
       (subst (λ (n : Entry). T (row_rule (λ f. command_tests f.command f) n)) w.entry (move_rule cdb)))
 
-  maker_second : T (is_maker r.command) → w.form.second ≡ Kind
-  unfolding maker_tests
-  maker_second h = same_test_law _ _ (row_obeys is_maker maker_tests (maker_rule cdb) h)
-
   -- ---- where the fields are right
 
   module _ (good : first (field_rows (entry_of cdb) cdb) ≡ Good) where
@@ -233,26 +237,25 @@ module _ (cdb : List ℕ) (r : Request) (w : Row (entry_of cdb) cdb r) where
     unfolding field_rows checks_of code_checks service_checks check_rows refuses
     row_right = rows_after _ _ _ tt (subst (λ (e : Entry). first (field_rows e cdb) ≡ Good) w.entry good)
 
-    second_right : wrong_in (check_of w.form.second w.form.size) cdb ≡ false
-    unfolding test_checks check_rows refuses
-    second_right = row_fails _ _ _ tt (rows_after _ _ _ tt row_right)
-
-    third_right : wrong_in (check_of w.form.third w.form.size) cdb ≡ false
-    unfolding test_checks check_rows refuses
-    third_right = row_fails _ _ _ tt (rows_after _ _ _ tt (rows_after _ _ _ tt row_right))
+    -- each of the row's tests passes
+    passes : (t : Test) → T (has_test t w.form.tests) → wrong_in (check_of t w.form.size) cdb ≡ false
+    unfolding test_checks
+    passes t h = test_right w.form.size cdb w.form.tests row_right t h
 
     row_fits : T (is_counted r.command) → r.size ≤ most_transfer
     unfolding count_tests wrong_in check_of number
     row_fits h =
         rw (← row_size)
-        (test (same_test w.form.second Count)
-        (λ t. ltb-false _ _ (rw (same_test_law _ _ t) at second_right))
+        (test (has_test Count w.form.tests) (λ t. ltb-false _ _ (passes Count t))
         (λ t. ltb-false _ _ (T_false _ (nor_r (eqb (number w.form.size cdb) 0) _ (false→T _
-        (rw (same_test_law _ _ (or_other (same_test w.form.second Count) _ t (row_obeys is_counted count_tests (count_rule cdb) h))) at third_right))))))
+        (passes SameCount
+        (or_other (has_test Count w.form.tests) (has_test SameCount w.form.tests) t (row_obeys is_counted count_tests (count_rule cdb) h))))))))
 
     row_typed : T (is_maker r.command) → T (is_type r.kind)
-    unfolding wrong_in check_of
-    row_typed h = rw (← row_kind) (not_not (is_type (number_in kind_bits cdb)) (false→T _ (rw (maker_second h) at second_right)))
+    unfolding maker_tests wrong_in check_of
+    row_typed h =
+        rw (← row_kind)
+        (not_not (is_type (number_in kind_bits cdb)) (false→T _ (passes Kind (row_obeys is_maker maker_tests (maker_rule cdb) h))))
 
 -- ---- of what a CDB asks for
 

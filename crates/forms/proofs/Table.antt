@@ -5,22 +5,18 @@ use mathlib.Core.Bool.{Bool, true, false, not, ◌&&◌, ◌||◌, cond, true≢
 use mathlib.Core.List.{List, [], ◌∷◌}
 use Prim.Native.Nat.{ℕ}
 use lib.Dec.{T, eqb, eqb→eq}
+use Rattle.std.specs.Prelude.{Some, None}
 use Rattle.fields.specs.Field.{byte, bit}
 use Rattle.fields.proofs.Tests.{and_l, and_r, or_other, nand_rest, not_not, not_not_intro, not_map, true→T}
 use Rattle.forms.specs.declared.Command.{Command}
 use Rattle.forms.specs.declared.Command.TheVariants.{Tells, Moves, Alters}
 use Rattle.forms.specs.declared.Tell.{Tell}
 use Rattle.forms.specs.declared.Tell.TheVariants.{Ready, Inquiry, VitalData, Capacity10, Capacity16, Keys, Reservation}
-use Rattle.forms.specs.declared.Span.TheVariants.{Absent}
 use Rattle.forms.specs.declared.Test.{Test}
 use Rattle.forms.specs.declared.Test.TheVariants.{Nothing, Page, VitalPage}
 use Rattle.forms.specs.declared.Form.{Form}
-use Rattle.forms.specs.declared.Service.{Service}
-use Rattle.forms.specs.declared.Service.TheVariants.{Served, Other}
-use Rattle.forms.specs.declared.Entry.{Entry}
-use Rattle.forms.specs.declared.Entry.TheVariants.{Listed, Unlisted}
 use Rattle.forms.specs.declared.Request.{Request}
-use Rattle.forms.specs.Forms.{form, two, Line, takes, lines, listed, lookup, entry_for, entry_of, action, request_by, Asked, nothing, asks, asked_by, asked_in, asked_of}
+use Rattle.forms.specs.Forms.{Service, Entry, form, two, Line, takes, lines, listed, lookup, entry_for, entry_of, action, request_by, Asked, nothing, asks, asked_by, asked_in, asked_of}
 
 -- a test of every line
 unfoldable pub all : (Line → Bool) → List Line → Bool
@@ -39,7 +35,7 @@ lookup_skips n a e [] h = refl
 lookup_skips n a e (l ∷ ls) h = go (eqb n l.code) (lists n ls) h (lookup_skips n a e ls)
   where
     go : (b z : Bool) → (b || z) ≡ false → (z ≡ false → lookup n a e ls ≡ e)
-        → elim b [ false ↦ lookup n a e ls | true ↦ elim (takes l.actions a) [ true ↦ listed l.long (Served l.form) | false ↦ lookup n a (listed l.long Other) ls ] ] ≡ e
+        → elim b [ false ↦ lookup n a e ls | true ↦ elim (takes l.actions a) [ true ↦ listed l.long (Some l.form) | false ↦ lookup n a (listed l.long None) ls ] ] ≡ e
     go true z h ih = absurd (true≢false h)
     go false z h ih = ih h
 
@@ -52,17 +48,17 @@ taken n a (l ∷ ls) = (eqb n l.code && takes l.actions a) || taken n a ls
 -- what is found once every line is passed
 unfoldable pub passed : ℕ → Entry → List Line → Entry
 passed n e [] = e
-passed n e (l ∷ ls) = passed n (cond (eqb n l.code) (listed l.long Other) e) ls
+passed n e (l ∷ ls) = passed n (cond (eqb n l.code) (listed l.long None) e) ls
 
 pub lookup_passes : (n a : ℕ) (e : Entry) (ls : List Line) → taken n a ls ≡ false → lookup n a e ls ≡ passed n e ls
 unfolding taken passed lookup
 lookup_passes n a e [] h = refl
-lookup_passes n a e (l ∷ ls) h = go (eqb n l.code) (takes l.actions a) h (lookup_passes n a e ls) (lookup_passes n a (listed l.long Other) ls)
+lookup_passes n a e (l ∷ ls) h = go (eqb n l.code) (takes l.actions a) h (lookup_passes n a e ls) (lookup_passes n a (listed l.long None) ls)
   where
     go : (b z : Bool) → ((b && z) || taken n a ls) ≡ false → (taken n a ls ≡ false → lookup n a e ls ≡ passed n e ls)
-        → (taken n a ls ≡ false → lookup n a (listed l.long Other) ls ≡ passed n (listed l.long Other) ls)
-        → elim b [ false ↦ lookup n a e ls | true ↦ elim z [ true ↦ listed l.long (Served l.form) | false ↦ lookup n a (listed l.long Other) ls ] ]
-        ≡ passed n (cond b (listed l.long Other) e) ls
+        → (taken n a ls ≡ false → lookup n a (listed l.long None) ls ≡ passed n (listed l.long None) ls)
+        → elim b [ false ↦ lookup n a e ls | true ↦ elim z [ true ↦ listed l.long (Some l.form) | false ↦ lookup n a (listed l.long None) ls ] ]
+        ≡ passed n (cond b (listed l.long None) e) ls
     go false z h x y = x h
     go true true h x y = absurd (true≢false h)
     go true false h x y = y h
@@ -70,14 +66,14 @@ lookup_passes n a e (l ∷ ls) h = go (eqb n l.code) (takes l.actions a) h (look
 -- ---- INQUIRY: bit 0 of byte 1 asks for a page
 
 abbrev pub inquiry_entry : Tell → Test → Entry
-inquiry_entry t page = listed 6 (Served (form (Tells t) Absent (two 3) page Nothing))
+inquiry_entry t page = listed 6 (Some (form (Tells t) None (two 3) page Nothing))
 
 pub inquiry_entry_law : (a : ℕ) → entry_for 0x12 a ≡ cond (bit 0 a) (inquiry_entry VitalData VitalPage) (inquiry_entry Inquiry Page)
 unfolding entry_for lookup lines takes
 inquiry_entry_law a = go (bit 0 a)
   where
     go : (b : Bool)
-        → elim (not b) [ true ↦ inquiry_entry Inquiry Page | false ↦ elim b [ true ↦ inquiry_entry VitalData VitalPage | false ↦ listed 6 Other ] ]
+        → elim (not b) [ true ↦ inquiry_entry Inquiry Page | false ↦ elim b [ true ↦ inquiry_entry VitalData VitalPage | false ↦ listed 6 None ] ]
         ≡ cond b (inquiry_entry VitalData VitalPage) (inquiry_entry Inquiry Page)
     go true = refl
     go false = refl
@@ -87,7 +83,7 @@ inquiry_entry_law a = go (bit 0 a)
 -- A rule of what was found before, and of every line and its other actions, is a rule of what is looked up.
 module _ (P : ℕ → Entry → Bool) where
   unfoldable pub obeys : Line → Bool
-  obeys l = P l.code (listed l.long (Served l.form)) && P l.code (listed l.long Other)
+  obeys l = P l.code (listed l.long (Some l.form)) && P l.code (listed l.long None)
 
   pub looked_up : (n a : ℕ) (e : Entry) (ls : List Line) → T (P n e) → T (all obeys ls) → T (P n (lookup n a e ls))
   unfolding lookup all obeys
@@ -96,10 +92,10 @@ module _ (P : ℕ → Entry → Bool) where
       go (eqb n l.code) refl (takes l.actions a) (looked_up n a e ls h rest) (λ y. looked_up n a other ls y rest)
     where
       row : Entry
-      row = listed l.long (Served l.form)
+      row = listed l.long (Some l.form)
 
       other : Entry
-      other = listed l.long Other
+      other = listed l.long None
 
       rest : T (all obeys ls)
       rest = and_r (obeys l) (all obeys ls) t
@@ -118,17 +114,12 @@ module _ (P : ℕ → Entry → Bool) where
 
 -- a rule of rows alone
 unfoldable pub service_rule : (Form → Bool) → Service → Bool
-service_rule P (Served f) = P f
-service_rule P Other = true
+service_rule P (Some f) = P f
+service_rule P None = true
 
 unfoldable pub row_rule : (Form → Bool) → Entry → Bool
-row_rule P (Listed code) = service_rule P code.service
-row_rule P Unlisted = true
-
--- whether the table serves what is asked for
-unfoldable pub is_nothing : Asked → Bool
-is_nothing nothing = true
-is_nothing (asks r) = false
+row_rule P (Some code) = service_rule P code.service
+row_rule P None = true
 
 -- a rule of commands is one of what is asked for
 unfoldable pub asked_rule : (Command → Bool) → Asked → Bool
@@ -138,13 +129,13 @@ asked_rule P (asks r) = P r.command
 module _ (P : Command → Bool) where
   service_obeys : (v : Service) (cdb : List ℕ) → T (service_rule (λ f. P f.command) v) → T (asked_rule P (asked_by v cdb))
   unfolding service_rule asked_by request_by asked_rule
-  service_obeys (Served f) cdb t = t
-  service_obeys Other cdb t = tt
+  service_obeys (Some f) cdb t = t
+  service_obeys None cdb t = tt
 
   pub asked_obeys : (e : Entry) (cdb : List ℕ) → T (row_rule (λ f. P f.command) e) → T (asked_rule P (asked_in e cdb))
   unfolding row_rule asked_in asked_rule
-  asked_obeys (Listed code) cdb t = service_obeys code.service cdb t
-  asked_obeys Unlisted cdb t = tt
+  asked_obeys (Some code) cdb t = service_obeys code.service cdb t
+  asked_obeys None cdb t = tt
 
 -- ---- which codes alter rights
 
@@ -173,7 +164,7 @@ out_command n k = (not (is_alters k) || eqb n 0x5F) && not (is_moves k && eqb n 
 
 out_rule : (cdb : List ℕ) → T (row_rule (λ f. out_command (byte 0 cdb) f.command) (entry_of cdb))
 unfolding entry_of entry_for lines row_rule service_rule out_command all obeys is_moves is_alters
-out_rule cdb = looked_up (λ n e. row_rule (λ f. out_command n f.command) e) (byte 0 cdb) (action cdb) Unlisted lines tt tt
+out_rule cdb = looked_up (λ n e. row_rule (λ f. out_command n f.command) e) (byte 0 cdb) (action cdb) None lines tt tt
 
 module _ (n : ℕ) where
   alters_out : (x : Asked) → T (asked_rule (out_command n) x) → T (alters_in x) → T (eqb n 0x5F)
@@ -223,17 +214,17 @@ inquiry_command n k = eqb n 0x12 || not (is_inquiring k)
 
 inquiry_rule : (n a : ℕ) → T (row_rule (λ f. inquiry_command n f.command) (entry_for n a))
 unfolding entry_for lines row_rule service_rule inquiry_command all obeys is_inquiring
-inquiry_rule n a = looked_up (λ n e. row_rule (λ f. inquiry_command n f.command) e) n a Unlisted lines tt tt
+inquiry_rule n a = looked_up (λ n e. row_rule (λ f. inquiry_command n f.command) e) n a None lines tt tt
 
 another : (n : ℕ) (e : Entry) → T (not (eqb n 0x12)) → T (row_rule (λ f. inquiry_command n f.command) e) → T (not (inquiring e))
 unfolding row_rule service_rule inquiry_command inquiring
-another n Unlisted d t = tt
-another n (Listed code) d t = go code.service t
+another n None d t = tt
+another n (Some code) d t = go code.service t
   where
     go : (v : Service) → T (service_rule (λ f. eqb n 0x12 || not (is_inquiring f.command)) v)
         → T (not (not (service_rule (λ f. not (is_inquiring f.command)) v)))
-    go (Served f) h = not_not_intro (not (is_inquiring f.command)) (or_other (eqb n 0x12) (not (is_inquiring f.command)) d h)
-    go Other h = tt
+    go (Some f) h = not_not_intro (not (is_inquiring f.command)) (or_other (eqb n 0x12) (not (is_inquiring f.command)) d h)
+    go None h = tt
 
 module _ (cdb : List ℕ) where
   pub code_inquiring : T (eqb (byte 0 cdb) 0x12) → T (inquiring (entry_of cdb))
@@ -251,12 +242,12 @@ module _ (cdb : List ℕ) where
   -- so it is seen from what is asked for
   asked_inquiring : (e : Entry) (r : Request) → asked_in e cdb ≡ asks r → T (inquiring e) → T (is_inquiring r.command)
   unfolding inquiring row_rule service_rule asked_in asked_by request_by asked_rule
-  asked_inquiring Unlisted r h t = absurd t
-  asked_inquiring (Listed code) r h t = go code.service h t
+  asked_inquiring None r h t = absurd t
+  asked_inquiring (Some code) r h t = go code.service h t
     where
       go : (v : Service) → asked_by v cdb ≡ asks r → T (not (service_rule (λ f. not (is_inquiring f.command)) v)) → T (is_inquiring r.command)
-      go (Served f) e k = subst (λ (x : Asked). T (asked_rule is_inquiring x)) e (not_not (is_inquiring f.command) k)
-      go Other e k = absurd k
+      go (Some f) e k = subst (λ (x : Asked). T (asked_rule is_inquiring x)) e (not_not (is_inquiring f.command) k)
+      go None e k = absurd k
 
   pub asked_other : (r : Request) → asked_of cdb ≡ asks r → T (not (is_inquiring r.command)) → T (not (eqb (byte 0 cdb) 0x12))
   unfolding asked_of
@@ -266,12 +257,12 @@ module _ (cdb : List ℕ) where
 
 -- "6, 10 or 16 as its code has it"
 unfoldable pub long_rule : Entry → Bool
-long_rule (Listed code) = eqb code.long 6 || (eqb code.long 10 || eqb code.long 16)
-long_rule Unlisted = true
+long_rule (Some code) = eqb code.long 6 || (eqb code.long 10 || eqb code.long 16)
+long_rule None = true
 
 pub long_for : (n a : ℕ) → T (long_rule (entry_for n a))
 unfolding entry_for lines long_rule all obeys
-long_for n a = looked_up (λ _ e. long_rule e) n a Unlisted lines tt tt
+long_for n a = looked_up (λ _ e. long_rule e) n a None lines tt tt
 
 pub long_rule_law : (cdb : List ℕ) → T (long_rule (entry_of cdb))
 unfolding entry_of

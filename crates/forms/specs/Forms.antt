@@ -1,6 +1,6 @@
 -- The table of commands: a row of fields for each operation code and, where it has them, service action.
 -- Assumes nothing.
-use Rattle.std.specs.Prelude.{Bool, true, false, not, List, [], ◌∷◌, ℕ, eqb}
+use Rattle.std.specs.Prelude.{Bool, true, false, not, List, [], ◌∷◌, ℕ, eqb, Option, Some, None}
 use Rattle.fields.specs.Field.{byte, bit}
 use Rattle.fields.specs.Bits.{Bits, within, whole, number_in}
 use Rattle.rights.specs.declared.Action.{Action}
@@ -11,20 +11,29 @@ use Rattle.forms.specs.declared.Command.{Command}
 use Rattle.forms.specs.declared.Command.TheVariants.{Tells, Moves, Alters}
 use Rattle.forms.specs.declared.Field.{Field}
 use Rattle.forms.specs.declared.Field.TheVariants.{Two, Four, Eight}
-use Rattle.forms.specs.declared.Span.{Span}
-use Rattle.forms.specs.declared.Span.TheVariants.{Absent, At}
 use Rattle.forms.specs.declared.Test.{Test}
 use Rattle.forms.specs.declared.Test.TheVariants.{Nothing, Page, VitalPage, Protection, Count, Anchor, SameAnchor, SameCount, Scope, Kind}
 use Rattle.forms.specs.declared.Form.{Form}
-use Rattle.forms.specs.declared.Service.{Service}
-use Rattle.forms.specs.declared.Service.TheVariants.{Served, Other}
-use Rattle.forms.specs.declared.Entry.{Entry}
-use Rattle.forms.specs.declared.Entry.TheVariants.{Listed, Unlisted}
+use Rattle.forms.specs.declared.Code.{Code}
 use Rattle.forms.specs.declared.Request.{Request}
 
+-- where a number stands that not every command has
+abbrev pub Span : Type 0
+Span = Option Field
+
+-- a service action of a listed code: it has a row, or it is not listed
+abbrev pub Service : Type 0
+Service = Option Form
+
+-- what the table has for a code and a service action
+abbrev pub Entry : Type 0
+Entry = Option Code
+
+abbrev pub form_with : Command → Span → Span → List Test → Form
+form_with command address size tests = record { command = command; address = address; size = size; tests = tests }
+
 abbrev pub form_of : Command → Span → Span → Test → Test → Test → Form
-form_of command address size first second third =
-    record { command = command; address = address; size = size; first = first; second = second; third = third }
+form_of command address size first second third = form_with command address size (first ∷ second ∷ third ∷ [])
 
 -- most have no third field that can be wrong
 abbrev pub form : Command → Span → Span → Test → Test → Form
@@ -32,13 +41,13 @@ form command address size first second = form_of command address size first seco
 
 -- a number of so many bytes, from a byte of the CDB on
 abbrev pub two : ℕ → Span
-two at = At (Two at)
+two at = Some (Two at)
 
 abbrev pub four : ℕ → Span
-four at = At (Four at)
+four at = Some (Four at)
 
 abbrev pub eight : ℕ → Span
-eight at = At (Eight at)
+eight at = Some (Eight at)
 
 -- ---- the lines of the table
 
@@ -74,22 +83,22 @@ line code actions long form = record { code = code; actions = actions; long = lo
 
 -- RESERVE OUT: "Length 5-8."
 abbrev pub out : Action → Test → Test → Form
-out a first second = form (Alters a) Absent (four 5) first second
+out a first second = form (Alters a) None (four 5) first second
 
 -- "Each operation code has its own row of fields": "6, 10 or 16 as its code has it", the command, the block address, the count, allocation
 -- length or list length, and the fields that can be wrong. Q-1: "Add WRITE SAME(16) (93h: address 2-9, count 10-13, …) and GET LBA STATUS
 -- (9Eh, action 12h)"; Q-2: "Serve INQUIRY pages …": by bit 0 of byte 1 INQUIRY asks for its standard data or for a page
 unfoldable pub lines : List Line
 lines =
-    line 0x00 any 6 (form (Tells Ready) Absent Absent Nothing Nothing)
-    ∷ line 0x12 even 6 (form (Tells Inquiry) Absent (two 3) Page Nothing)
-    ∷ line 0x12 odd 6 (form (Tells VitalData) Absent (two 3) VitalPage Nothing)
-    ∷ line 0x25 any 10 (form (Tells Capacity10) Absent Absent Nothing Nothing)
+    line 0x00 any 6 (form (Tells Ready) None None Nothing Nothing)
+    ∷ line 0x12 even 6 (form (Tells Inquiry) None (two 3) Page Nothing)
+    ∷ line 0x12 odd 6 (form (Tells VitalData) None (two 3) VitalPage Nothing)
+    ∷ line 0x25 any 10 (form (Tells Capacity10) None None Nothing Nothing)
     ∷ line 0x28 any 10 (form (Moves Read) (four 2) (two 7) Protection Count)
     ∷ line 0x2A any 10 (form (Moves Write) (four 2) (two 7) Protection Count)
-    ∷ line 0x42 any 10 (form (Moves Unmap) Absent (two 7) Anchor Nothing)
-    ∷ line 0x5E (only 0) 10 (form (Tells Keys) Absent (two 7) Nothing Nothing)
-    ∷ line 0x5E (only 1) 10 (form (Tells Reservation) Absent (two 7) Nothing Nothing)
+    ∷ line 0x42 any 10 (form (Moves Unmap) None (two 7) Anchor Nothing)
+    ∷ line 0x5E (only 0) 10 (form (Tells Keys) None (two 7) Nothing Nothing)
+    ∷ line 0x5E (only 1) 10 (form (Tells Reservation) None (two 7) Nothing Nothing)
     ∷ line 0x5F (only 0) 10 (out Register Nothing Nothing)
     ∷ line 0x5F (only 1) 10 (out Reserve Scope Kind)
     ∷ line 0x5F (only 2) 10 (out Release Scope Kind)
@@ -99,14 +108,14 @@ lines =
     ∷ line 0x88 any 16 (form (Moves Read) (eight 2) (four 10) Protection Count)
     ∷ line 0x8A any 16 (form (Moves Write) (eight 2) (four 10) Protection Count)
     ∷ line 0x93 any 16 (form_of (Moves WriteSame) (eight 2) (four 10) Protection SameAnchor SameCount)
-    ∷ line 0x9E (only 0x10) 16 (form (Tells Capacity16) Absent (four 10) Nothing Nothing)
+    ∷ line 0x9E (only 0x10) 16 (form (Tells Capacity16) None (four 10) Nothing Nothing)
     ∷ line 0x9E (only 0x12) 16 (form (Moves Status) (eight 2) (four 10) Nothing Nothing)
     ∷ []
 
 -- ---- what the table has for a code and a service action
 
 abbrev pub listed : ℕ → Service → Entry
-listed long service = Listed (record { long = long; service = service })
+listed long service = Some (record { long = long; service = service })
 
 -- `found` is what the lines so far say: a listed code with another action is known by its length alone
 unfoldable pub lookup : ℕ → ℕ → Entry → List Line → Entry
@@ -114,11 +123,11 @@ lookup n a found [] = found
 lookup n a found (l ∷ ls) =
     elim (eqb n l.code) [
       | false ↦ lookup n a found ls
-      | true ↦ elim (takes l.actions a) [ true ↦ listed l.long (Served l.form) | false ↦ lookup n a (listed l.long Other) ls ]
+      | true ↦ elim (takes l.actions a) [ true ↦ listed l.long (Some l.form) | false ↦ lookup n a (listed l.long None) ls ]
     ]
 
 unfoldable pub entry_for : ℕ → ℕ → Entry
-entry_for n a = lookup n a Unlisted lines
+entry_for n a = lookup n a None lines
 
 unfoldable pub entry_of : List ℕ → Entry
 entry_of cdb = entry_for (byte 0 cdb) (action cdb)
@@ -133,8 +142,8 @@ bytes_of (Eight at) = whole at 8
 
 -- where there is none, no byte
 unfoldable pub span_bits : Span → Bits
-span_bits Absent = whole 0 0
-span_bits (At f) = bytes_of f
+span_bits None = whole 0 0
+span_bits (Some f) = bytes_of f
 
 -- the number that stands there; 0 where there is none
 unfoldable pub number : Span → List ℕ → ℕ
@@ -172,12 +181,12 @@ pub data Asked : Type 0 where
   asks : Request → Asked
 
 unfoldable pub asked_by : Service → List ℕ → Asked
-asked_by (Served f) cdb = asks (request_by f cdb)
-asked_by Other cdb = nothing
+asked_by (Some f) cdb = asks (request_by f cdb)
+asked_by None cdb = nothing
 
 unfoldable pub asked_in : Entry → List ℕ → Asked
-asked_in (Listed code) cdb = asked_by code.service cdb
-asked_in Unlisted cdb = nothing
+asked_in (Some code) cdb = asked_by code.service cdb
+asked_in None cdb = nothing
 
 unfoldable pub asked_of : List ℕ → Asked
 asked_of cdb = asked_in (entry_of cdb) cdb

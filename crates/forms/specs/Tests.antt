@@ -1,6 +1,6 @@
 -- The tests of a CDB by itself, in three stages: "Then 1. Then 11 again …. Then 2: …"
 -- Assumes nothing.
-use Rattle.std.specs.Prelude.{Bool, true, false, not, ◌||◌, List, [], ◌∷◌, ℕ, ◌-◌, eqb, ltb, length}
+use Rattle.std.specs.Prelude.{Bool, true, false, not, ◌||◌, List, [], ◌∷◌, ℕ, ◌-◌, eqb, ltb, length, map, Some, None}
 use Rattle.fields.specs.Bits.{Bits, within, whole, number_in}
 use Rattle.answers.specs.declared.Answer.TheVariants.{Unusable}
 use Rattle.answers.specs.Answers.{not_listed, invalid_field}
@@ -9,20 +9,15 @@ use Rattle.pool.specs.Bounds.{most_transfer}
 use Rattle.rights.specs.Rights.{is_one_of, is_type}
 use Rattle.forms.specs.declared.Test.{Test}
 use Rattle.forms.specs.declared.Test.TheVariants.{Nothing, Page, VitalPage, Protection, Count, Anchor, SameAnchor, SameCount, Scope, Kind}
-use Rattle.forms.specs.declared.Span.{Span}
 use Rattle.forms.specs.declared.Form.{Form}
-use Rattle.forms.specs.declared.Service.{Service}
-use Rattle.forms.specs.declared.Service.TheVariants.{Served, Other}
 use Rattle.forms.specs.declared.Code.{Code}
-use Rattle.forms.specs.declared.Entry.{Entry}
-use Rattle.forms.specs.declared.Entry.TheVariants.{Listed, Unlisted}
-use Rattle.forms.specs.Forms.{action_bits, span_bits, page_bits, protection_bits, scope_bits, kind_bits}
+use Rattle.forms.specs.Forms.{Span, Service, Entry, action_bits, span_bits, page_bits, protection_bits, scope_bits, kind_bits}
 
 -- ---- 1
 
 unfoldable pub is_unlisted : Entry → Bool
-is_unlisted (Listed code) = false
-is_unlisted Unlisted = true
+is_unlisted (Some code) = false
+is_unlisted None = true
 
 -- "operation code not listed"
 unfoldable pub code_rows : Entry → List Row
@@ -32,8 +27,8 @@ code_rows e = not_listed if is_unlisted e ∷ []
 
 -- "Then 11 again if the CDB's length is not 6, 10 or 16 as its code has it."
 unfoldable pub length_rows : Entry → List ℕ → List Row
-length_rows (Listed code) cdb = Unusable if not (eqb (length cdb) code.long) ∷ []
-length_rows Unlisted cdb = []
+length_rows (Some code) cdb = Unusable if not (eqb (length cdb) code.long) ∷ []
+length_rows None cdb = []
 
 -- ---- 2
 
@@ -85,12 +80,12 @@ check_of Kind size = check kind_bits (λ n. not (is_type n))
 
 -- the fields of a row; Q-4: "then by lowest byte, then highest bit"
 unfoldable pub test_checks : Form → List Check
-test_checks f = check_of f.first f.size ∷ check_of f.second f.size ∷ check_of f.third f.size ∷ []
+test_checks f = map (λ t. check_of t f.size) f.tests
 
 -- "others 2": an action that is not listed, whatever else the CDB says
 unfoldable pub service_checks : Service → List Check
-service_checks (Served f) = test_checks f
-service_checks Other = check action_bits (λ n. true) ∷ []
+service_checks (Some f) = test_checks f
+service_checks None = check action_bits (λ n. true) ∷ []
 
 -- "control byte bit 2 (NACA) set, for all commands, and the fields below"; the control byte is the CDB's last by its code's length
 abbrev pub control_check : ℕ → Check
@@ -100,8 +95,8 @@ unfoldable pub code_checks : Code → List Check
 code_checks code = control_check code.long ∷ service_checks code.service
 
 unfoldable pub checks_of : Entry → List Check
-checks_of (Listed code) = code_checks code
-checks_of Unlisted = []
+checks_of (Some code) = code_checks code
+checks_of None = []
 
 unfoldable pub field_rows : Entry → List ℕ → List Row
 field_rows e cdb = check_rows (checks_of e) cdb

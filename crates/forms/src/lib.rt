@@ -35,7 +35,7 @@ pub enum Command {
     Alters(Action),
 }
 
-// A number in a CDB: in the two, four or eight bytes from one on.
+// A number in a CDB: in the two, four or eight bytes from one on. No other width can be named, so each number fits 64 bits.
 #[derive(Clone, Copy)]
 pub enum Field {
     Two(u8),
@@ -43,14 +43,7 @@ pub enum Field {
     Eight(u8),
 }
 
-// Where a number stands that not every command has.
-#[derive(Clone, Copy)]
-pub enum Span {
-    Absent,
-    At(Field),
-}
-
-// A field of a CDB that can be wrong.
+// A field of a CDB that can be wrong. A name and no closure: the table of commands is data, of which the laws speak row by row.
 #[derive(Clone, Copy)]
 pub enum Test {
     Nothing,
@@ -65,37 +58,21 @@ pub enum Test {
     Kind,
 }
 
-// The row of a command: which it is, its block address, its count, allocation length or list length, and which of its fields can be wrong,
-// in the order of the tests.
+// The row of a command: which it is, where its block address stands and its count, allocation length or list length, if it has them, and
+// which of its fields can be wrong, in the order of the tests.
 #[derive(Clone, Copy)]
 pub struct Form {
     pub command: Command,
-    pub address: Span,
-    pub size: Span,
-    pub first: Test,
-    pub second: Test,
-    pub third: Test,
+    pub address: Option<Field>,
+    pub size: Option<Field>,
+    pub tests: [Test; 3],
 }
 
-// A service action of a listed code: it has a row, or it is not listed.
-#[derive(Clone, Copy)]
-pub enum Service {
-    Served(Form),
-    Other,
-}
-
-// What a listed code has: how long its CDBs are, and its service action.
+// What a listed code has: how long its CDBs are, and the row of its service action, if the action is listed.
 #[derive(Clone, Copy)]
 pub struct Code {
     pub long: usize,
-    pub service: Service,
-}
-
-// What the table has for a code and a service action.
-#[derive(Clone, Copy)]
-pub enum Entry {
-    Listed(Code),
-    Unlisted,
+    pub service: Option<Form>,
 }
 
 // What a CDB asks for: the command, its block address, its count, allocation length or list length, the type of reservation it names, the

@@ -2,12 +2,12 @@
 -- Assumes nothing.
 use mathlib.Core.Path.{◌≡◌, refl, sym, ap}
 use mathlib.Core.Bool.{Bool, true, false}
-use mathlib.Core.List.{List}
-use Prim.Native.Nat.{ℕ, ◌≤◌, min}
+use mathlib.Core.List.{List, ◌++◌}
+use Prim.Native.Nat.{ℕ, ◌+◌, ◌≤◌, ◌<◌, min}
 use native.Mathlib.Omega.{arith}
 use native.Mathlib.Nat.{le_of_lt}
 use lib.Dec.{leb}
-use lib.ListN.{length, take, length-take}
+use lib.ListN.{length, length-append, take, length-take}
 use lib.Seq.{take_all, take-take, length-take-le}
 use borrow.Author.Tests.{leb-true, leb-false}
 use Rattle.answers.specs.declared.Refusal.{Refusal}
@@ -15,7 +15,8 @@ use Rattle.answers.specs.declared.Refusal.TheVariants.{NotListed, InvalidField, 
 use Rattle.answers.specs.declared.Answer.{Answer}
 use Rattle.answers.specs.declared.Answer.TheVariants.{Good, Refused, Conflict, Unusable, Short}
 use Rattle.answers.specs.Answers.{codes_of, number_of}
-use Rattle.text.specs.Text.{hex}
+use Rattle.text.specs.Text.{decimal, hex}
+use Rattle.text.proofs.DecimalLaws.{decimal_length}
 use Rattle.lines.specs.Line.{shown_bytes, data_text}
 
 -- ---- the first of the bytes returned
@@ -43,6 +44,12 @@ module _ (returned n : ℕ) (l : List ℕ) (e : n ≡ min shown_bytes returned) 
 
   pub shown_length : returned ≤ length l → length (take n l) ≡ n
   shown_length h = length-take-le n l (omega arith)
+
+-- ---- a number
+
+-- at most 4 digits
+pub number_room : (l : List ℕ) (x : ℕ) → x < 10000 → length (l ++ decimal x) ≤ length l + 4
+number_room l x h = omega (arith, length-append l (decimal x), decimal_length 4 x (omega arith) (omega arith))
 
 -- ---- the answer's number
 

@@ -1,10 +1,8 @@
 -- The line of an outcome: "call,answer,status,sense,length,data".
 -- Assumes nothing.
-use Rattle.std.specs.Prelude.{List, [], ◌∷◌, ◌++◌, ℕ, take}
+use Rattle.std.specs.Prelude.{List, [], ◌∷◌, ◌++◌, ℕ, Option, Some, None, take}
 use Rattle.answers.specs.declared.Answer.{Answer}
 use Rattle.answers.specs.declared.Answer.TheVariants.{Good, Refused, Conflict, Unusable, Short}
-use Rattle.answers.specs.declared.Status.{Status}
-use Rattle.answers.specs.declared.Status.TheVariants.{Given, Nothing}
 use Rattle.answers.specs.declared.Codes.{Codes}
 use Rattle.answers.specs.Answers.{codes_of, number_of, status_of}
 use Rattle.text.specs.Text.{comma, line_feed, decimal, hex_byte, hex}
@@ -13,9 +11,9 @@ abbrev pub dash : ℕ
 dash = 0x2D
 
 -- "status in hex, `--` for none"
-unfoldable pub status_text : Status → List ℕ
-status_text (Given b) = hex_byte b
-status_text Nothing = dash ∷ dash ∷ []
+unfoldable pub status_text : Option ℕ → List ℕ
+status_text (Some b) = hex_byte b
+status_text None = dash ∷ dash ∷ []
 
 -- "key, ASC, ASCQ"
 unfoldable pub codes_text : Codes → List ℕ

@@ -1,7 +1,9 @@
 -- Laws of the index: how one slot more, or one slot filled, changes the places of a range.
 -- Assumes nothing.
-use Rattle.std.proofs.Common.{◌≡◌, ℕ, zero, suc, ◌+◌, ◌-◌, ◌<◌, ◌≤◌, cond, not, T, eqb, ◌≢◌, List, [], ◌∷◌, map, length, get_or, take, drop, set, replicate, sym, refl, ap, subst, ◌∙◌, add-zero, add-one, arith, drop_of_length-le, drop-cons, get_or-take, eq-eqb, ne_eqb}
+use Rattle.std.proofs.Common.{◌≡◌, ℕ, zero, suc, ◌+◌, ◌-◌, ◌<◌, ◌≤◌, Bool, true, false, cond, not, T, eqb, ◌≢◌, List, [], ◌∷◌, map, length, get_or, take, drop, set, replicate, sym, refl, ap, subst, ◌∙◌, add-zero, arith, drop-cons, get_or-take, eq-eqb, ne_eqb}
 use lib.Seq.{drop-length, take-set-lt}
+use Rattle.std.specs.List.{count_by}
+use Rattle.std.proofs.lemmas.List.Recursion.{is_count_by}
 use Rattle.fields.proofs.Tests.{test, T_true, T_false}
 use Rattle.pool.specs.Bounds.{most_transfer}
 use Rattle.pool.specs.Pool.{place, has, mapped, unmapped, fill}
@@ -103,18 +105,13 @@ index_at o index a n k x h =
 
 -- ---- counting what has no place
 
-module _ (slots : ℕ) (l : List ℕ) (i : ℕ) where
-  pub missing_hit : i < length l → get_or l i 0 ≡ slots → missing slots (drop i l) ≡ 1 + missing slots (drop (i + 1) l)
-  unfolding missing
-  missing_hit h e = rw (drop-cons l i 0, eq-eqb _ _ e, add-one)
-
-  pub missing_miss : i < length l → get_or l i 0 ≢ slots → missing slots (drop i l) ≡ 0 + missing slots (drop (i + 1) l)
-  unfolding missing
-  missing_miss h d = rw (drop-cons l i 0, ne_eqb _ _ d, add-one)
-
-  pub missing_end : length l ≤ i → missing slots (drop i l) ≡ 0
-  unfolding missing
-  missing_end h = rw drop_of_length-le
+pub missing_counts : (slots : ℕ) (l : List ℕ) → missing slots l ≡ count_by (λ x. eqb x slots) l
+unfolding missing
+missing_counts slots l = is_count_by (missing slots) (λ x. eqb x slots) refl (λ x xs. one_more (eqb x slots) (missing slots xs)) l
+  where
+    one_more : (b : Bool) (n : ℕ) → cond b 1 0 + n ≡ cond b (1 + n) n
+    one_more true n = refl
+    one_more false n = omega arith
 
 none_is : (o : List ℕ) (x : ℕ) → ◌≡◌ {A = ℕ} (cond (eqb (place x o) (length o)) 1 0) (cond (has x o) 0 1)
 none_is o x =

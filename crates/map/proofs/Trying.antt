@@ -1,13 +1,15 @@
 -- A write that is tried: what it was, where it was done and where there was no room.
 -- Assumes nothing.
-use Rattle.std.proofs.Common.{◌≡◌, ℕ, ◌<◌, ◌≤◌, Bool, true, false, cond, List, length, get_or, take, sym, refl, ap, ◌∙◌, arith, leb→le, le-leb}
+use Rattle.std.proofs.Common.{◌≡◌, ℕ, ◌*◌, ◌<◌, ◌≤◌, drop, take_all, Bool, true, false, cond, List, length, get_or, take, sym, refl, ap, ◌∙◌, arith, leb→le, le-leb}
 use borrow.Author.Tests.{lt-leb}
 use Rattle.fields.proofs.Tests.{true→T}
-use Rattle.pool.specs.Bounds.{most_transfer}
+use Rattle.fields.specs.Bytes.{part}
+use Rattle.pool.specs.Bounds.{most_transfer, block_bytes}
 use Rattle.pool.specs.Marks.{marks_of}
-use Rattle.pool.specs.Pool.{Pool, pool, free, unmapped, assign_blocks, put_blocks, write_blocks, room_for}
+use Rattle.pool.specs.Pool.{Pool, pool, free, unmapped, assign_blocks, put_blocks, write_blocks, room_for, copies}
+use Rattle.pool.proofs.Copies.{copies_at}
 use Rattle.map.specs.Index.{Indexed, put_places}
-use Rattle.map.specs.Write.{Gave, Written, written, try_write}
+use Rattle.map.specs.Write.{Gave, Stepped, Written, written, try_write}
 use Rattle.map.proofs.Blocks.{assign_nothing, put_indexed, given_below}
 
 -- ---- slots for all blocks of a range or for none
@@ -73,3 +75,17 @@ module _ (p : Pool) (a n : ℕ) (bs : List ℕ) where
     pub after : pool owners marks medium ≡ cond (room_for p.owners a n) (write_blocks p a n bs) p
     unfolding try_write
     after = ap (λ (w : Written). w.after) e
+
+-- ---- the bytes that are put
+
+-- each block has bytes of its own
+pub stepped_each : (n : ℕ) (bytes : List ℕ) → Stepped block_bytes n bytes bytes
+stepped_each n bytes = record { each = λ k h. refl }
+
+-- all have those of one
+pub stepped_same : (n : ℕ) (block : List ℕ) → length block ≡ block_bytes → Stepped 0 n block (copies n block)
+unfolding part
+stepped_same n block e = record { each = λ k h. copies_at n block e k h ∙ whole k }
+  where
+    whole : (k : ℕ) → block ≡ take block_bytes (drop (0 * k) block)
+    whole k = let z : 0 * k ≡ 0 = omega arith in rw z (sym (take_all block_bytes block (omega arith)))

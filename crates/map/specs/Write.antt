@@ -1,6 +1,8 @@
 -- A write that is done whole or refused with nothing changed.
 -- Assumes nothing.
-use Rattle.std.specs.Prelude.{◌≡◌, ℕ, Bool, true, cond, List}
+use Rattle.std.specs.Prelude.{◌≡◌, ℕ, Bool, true, cond, List, ◌*◌, ◌<◌}
+use Rattle.fields.specs.Bytes.{part}
+use Rattle.pool.specs.Bounds.{block_bytes}
 use Rattle.pool.specs.Marks.{marks_of}
 use Rattle.pool.specs.Pool.{Pool, pool, room_for, assign_blocks, write_blocks}
 use Rattle.map.specs.Index.{Indexed}
@@ -24,3 +26,7 @@ written done owners marks medium = record { done = done; after = pool owners mar
 unfoldable pub try_write : Pool → ℕ → ℕ → List ℕ → Written
 try_write p a n bs =
     record { done = room_for p.owners a n; after = cond (room_for p.owners a n) (write_blocks p a n bs) p }
+
+-- the first n blocks of `source` are those that stand a step apart in `bytes`: step 0 is one block n times over
+pub record Stepped (step n : ℕ) (bytes source : List ℕ) : Type 0 where
+  pub each : (k : ℕ) → k < n → part source (block_bytes * k) block_bytes ≡ part bytes (step * k) block_bytes

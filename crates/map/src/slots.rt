@@ -7,14 +7,12 @@ ghost use Rattle.fields.specs.Bytes.{zeros};
 pub fn above(owner: u64, first: u64) -> u64
     ensures { (first ≤ owner → owner ≡ first + result) × (owner < first → owner + 2 ^ 64 ≡ first + result) }
 {
-    std::num::wrapping_sub_u64(owner, first)
+    owner.wrapping_sub(first)
 }
 
 // No slot holds a block any more.
 pub fn free_all(owners: &mut [u64])
     ensures { owners.new ≡ zeros (length owners.old) }
 {
-    for i in 0..owners.len() {
-        owners[i] = 0;
-    }
+    owners.fill(0);
 }

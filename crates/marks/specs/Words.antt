@@ -3,11 +3,17 @@
 use Rattle.std.specs.Prelude.{List, [], ◌∷◌, ℕ, ◌-◌, ◌/◌, ◌%◌, ◌^◌, get_or, set}
 use Rattle.std.specs.Int.Bits.{bit_and, bit_or}
 use Rattle.pool.specs.Bounds.{word_slots}
+use Rattle.pool.specs.Marks.{marked, lowest}
+use Rattle.marks.specs.declared.FreeRoom.{FreeRoom}
 use Rattle.marks.specs.declared.Words.{Words}
 
 -- the words, in their order
 abbrev pub both : Words → List ℕ
 both w = w.low ∷ w.high ∷ []
+
+-- what is read off them, of so many slots
+abbrev pub room_in : ℕ → List ℕ → FreeRoom
+room_in slots marks = record { free = slots - marked marks; lowest = lowest marks }
 
 -- slot i is "bit i mod 64 of word i / 64"
 abbrev pub bit_of : ℕ → ℕ

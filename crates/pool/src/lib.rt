@@ -9,10 +9,9 @@ pub struct Lba(pub u64);
 #[derive(Clone, Copy)]
 pub struct Slot(pub usize);
 
-// What a check of the owner numbers says.
+// What is wrong with the owner numbers: a slot beyond the capacity, or two slots, the lower first, that name one block.
 #[derive(Clone, Copy)]
-pub enum Checked {
-    Valid,
+pub enum Flaw {
     Beyond(Slot),
     Clash(Slot, Slot),
 }

@@ -1,12 +1,13 @@
 -- What the contracts speak of: the store and the call that the lent buffers make, and what is left of them.
 -- Assumes nothing.
-use Rattle.std.specs.Prelude.{List, ℕ}
+use Rattle.std.specs.Prelude.{List, ℕ, Result as Either, Ok, Err}
+use Rattle.answers.specs.declared.Answer.{Answer}
+use Rattle.answers.specs.declared.Answer.TheVariants.{Good}
 use Rattle.pool.specs.Pool.{pool}
 use Rattle.store.specs.declared.Unit.{Unit}
 use Rattle.store.specs.Store.{Store, Call, Result}
-use Rattle.store.specs.Fresh.{FreshResult}
+use Rattle.store.specs.Fresh.{FreshResult, fresh_unit}
 use Rattle.reply.specs.declared.Outcome.{Outcome}
-use Rattle.reply.specs.declared.Made.{Made}
 
 -- the store of a format, a unit and the pool that is lent to it
 abbrev pub store_of : ℕ → Unit → List ℕ → List ℕ → List ℕ → Store
@@ -23,6 +24,7 @@ left format r owners marks medium data_in sense = record {
   store = store_of format r.unit owners marks medium;
 }
 
--- all that making a fresh store leaves
-abbrev pub made : Made → List ℕ → List ℕ → FreshResult
-made r owners marks = record { answer = r.answer; unit = r.unit; owners = owners; marks = marks }
+-- all that making a fresh store leaves: its unit, or an answer with a unit without blocks
+abbrev pub made : Either Unit Answer → List ℕ → List ℕ → FreshResult
+made (Ok unit) owners marks = record { answer = Good; unit = unit; owners = owners; marks = marks }
+made (Err answer) owners marks = record { answer = answer; unit = fresh_unit 0; owners = owners; marks = marks }

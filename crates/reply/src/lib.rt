@@ -6,24 +6,10 @@ use store::Unit;
 
 pub mod cut;
 
-// What a command that returns bytes leaves.
-#[derive(Clone, Copy)]
-pub struct Reply {
-    pub answer: Answer,
-    pub returned: usize,
-}
-
-// What a call leaves.
+// What a call leaves. No `Result`: every answer comes with a unit, which a refusal may have changed (13 takes away what waited), and C is told all three.
 #[derive(Clone, Copy)]
 pub struct Outcome {
     pub answer: Answer,
     pub returned: usize,
-    pub unit: Unit,
-}
-
-// What making a fresh store leaves.
-#[derive(Clone, Copy)]
-pub struct Made {
-    pub answer: Answer,
     pub unit: Unit,
 }

@@ -1,86 +1,59 @@
--- Laws of the change of all places, and of the test of all places.
+-- A list of what a function gives of each element, as an array's `map` makes it; and the lowest free place given away.
 -- Assumes nothing.
-use Rattle.std.proofs.Common.{◌≡◌, ℕ, zero, suc, ◌+◌, ◌<◌, Bool, true, false, ◌&&◌, List, [], ◌∷◌, map, length, get_or, drop, set, sym, refl, ap, ◌∙◌, add-one, arith, drop-cons}
-use lib.ListN.{length-map}
-use lib.Seq.{drop-length}
+use Rattle.std.proofs.Common.{◌≡◌, ℕ, zero, suc, ◌+◌, ◌<◌, Bool, true, false, cond, not, None, Some, List, [], ◌∷◌, map, length, get_or, set, ltb, ltb-false, sym, refl, subst, ap, ◌∙◌, arith, add-zero}
+use Rattle.std.proofs.lemmas.List.{same_lists, get_or-map, length-map}
+use lib.Seq.{set_out}
+use Rattle.std.specs.Array.{MapsFrom, IsMapOf}
+use Rattle.std.specs.Fn.{Called, Mut}
+use Rattle.std.specs.List.{position, position_or_len}
 use Rattle.rights.specs.declared.Place.{Place}
-use Rattle.rights.specs.Places.{unused}
-use Rattle.rights.specs.Rights.{places_apart}
-use Rattle.reservations.specs.Search.{sound_before}
+use Rattle.rights.specs.Places.{used, registration, enrol}
 
--- ---- a function put to each element in place
+module _ {F X Y : Type 0} (g : Mut F (X × Unit {0}) Y) (h : X → Y) (f : F) (same : (x : X) (y : Y) (q : F) → Called g f (x, tt) y q → (q ≡ f) × (y ≡ h x)) where
+  -- from the place i on
+  from_on : (n i : ℕ) (xs : List X) (ys : List Y) → MapsFrom g f xs ys i n → (k : ℕ) (d : X) (e : Y) → k < n → get_or ys (i + k) e ≡ h (get_or xs (i + k) d)
+  from_on zero i xs ys m k d e l = absurd (omega arith)
+  from_on (suc n) i xs ys (q, x, y, at_x, at_y, called, rest) zero d e l = rw add-zero (at_y.1 e ∙ (same x y q called).1 ∙ ap h (sym (at_x.1 d)))
+  from_on (suc n) i xs ys (q, x, y, at_x, at_y, called, rest) (suc k) d e l =
+      let next : i + suc k ≡ (i + 1) + k = omega arith in
+      rw next (from_on n (i + 1) xs ys (subst (λ (p : F). MapsFrom g p xs ys (i + 1) n) (same x y q called).0 rest) k d e (omega arith))
 
--- the list with f put to its first n elements
-unfoldable pub map_first : {A : Type 0} → (A → A) → ℕ → List A → List A
-map_first f zero l = l
-map_first f (suc n) [] = []
-map_first f (suc n) (a ∷ l) = f a ∷ map_first f n l
+  pub mapped : (xs : List X) (ys : List Y) (n : ℕ) → IsMapOf g f xs ys n → length xs ≡ n → ys ≡ map h xs
+  mapped xs ys n m l = same_lists ys (map h xs) (m.long ∙ sym (length-map xs h ∙ l)) (λ k e small. each k e small xs l)
+    where
+      each : (k : ℕ) (e : Y) → k < length ys → (zs : List X) → length zs ≡ n → get_or ys k e ≡ get_or (map h xs) k e
+      each k e small [] z = absurd (omega (arith, m.long))
+      each k e small (d ∷ zs) z =
+          let front : 0 + k ≡ k = omega arith in
+          (rw front at (from_on n 0 xs ys m.each k d e (omega (arith, m.long)))) ∙ sym (get_or-map h xs k d e (omega (arith, m.long)))
 
-pub map_first_none : {A : Type 0} (f : A → A) (l : List A) → l ≡ map_first f 0 l
-unfolding map_first
-map_first_none f l = refl
+-- ---- the lowest free place
 
-pub map_first_get_d : {A : Type 0} (f : A → A) (l : List A) (i : ℕ) (d : A) → get_or (map_first f i l) i d ≡ get_or l i d
-unfolding map_first
-map_first_get_d f l zero d = refl
-map_first_get_d f [] (suc i) d = refl
-map_first_get_d f (a ∷ l) (suc i) d = map_first_get_d f l i d
+enrol_step : (n k : ℕ) (p : Place) (ps : List Place) (b : Bool) (i : ℕ) → enrol n k ps ≡ set ps i (registration n k)
+    → cond b (p ∷ enrol n k ps) (registration n k ∷ ps) ≡ set (p ∷ ps) (cond (not (not b)) (1 + i) 0) (registration n k)
+enrol_step n k p ps true i e =
+    let next : 1 + i ≡ suc i = omega arith in
+    rw next (ap (λ (l : List Place). p ∷ l) e)
+enrol_step n k p ps false i e = refl
 
-set_suc : {A : Type 0} (f : A → A) (l : List A) (i : ℕ) (d : A) → i < length l → set (map_first f i l) i (f (get_or l i d)) ≡ map_first f (suc i) l
-unfolding map_first
-set_suc f [] i d h = absurd (omega arith)
-set_suc f (a ∷ l) zero d h = refl
-set_suc f (a ∷ l) (suc i) d h = ap (λ t. f a ∷ t) (set_suc f l i d (omega arith))
+enrol_set : (n k : ℕ) (ps : List Place) → enrol n k ps ≡ set ps (position_or_len (λ p. not (used p)) ps) (registration n k)
+unfolding enrol
+enrol_set n k [] = refl
+enrol_set n k (p ∷ ps) = enrol_step n k p ps (used p) (position_or_len (λ p. not (used p)) ps) (enrol_set n k ps)
 
--- a turn of the change
-pub map_first_more : {A : Type 0} (f : A → A) (l : List A) (i : ℕ) (d : A) → i < length l → set (map_first f i l) i (f (get_or l i d)) ≡ map_first f (i + 1) l
-map_first_more f l i d h = rw add-one (set_suc f l i d h)
+enrol_at : (n k : ℕ) (ps : List Place) (i : ℕ) → i ≡ position_or_len (λ p. not (used p)) ps → set ps i (registration n k) ≡ enrol n k ps
+enrol_at n k ps i e = rw e (sym (enrol_set n k ps))
 
-whole : {A : Type 0} (f : A → A) (l : List A) → map_first f (length l) l ≡ map f l
-unfolding map_first
-whole f [] = refl
-whole f (a ∷ l) = ap (λ t. f a ∷ t) (whole f l)
+pub enrol_found : (n k : ℕ) (ps : List Place) (i : ℕ) → Some i ≡ position (λ p. not (used p)) ps → set ps i (registration n k) ≡ enrol n k ps
+enrol_found n k ps i e = go (ltb (position_or_len (λ p. not (used p)) ps) (length ps)) e
+  where
+    go : (b : Bool) → Some i ≡ cond b (Some (position_or_len (λ p. not (used p)) ps)) None → set ps i (registration n k) ≡ enrol n k ps
+    go true z = grind (arith, enrol_at)
+    go false z = grind arith
 
-pub map_first_all : {A : Type 0} (f : A → A) (l : List A) (n : ℕ) → length l ≡ n → map_first f n l ≡ map f l
-map_first_all f l n e = rw (← e) (whole f l)
-
--- what owning an array of structs in a struct tells of its list
-pub length_mapped : {X Y : Type 0} (f : X → Y) (l : List X) (n : ℕ) → length (map f l) ≡ n → length l ≡ n
-length_mapped f l n e = sym (length-map l f) ∙ e
-
--- ---- every place sound
-
-module _ (ps : List Place) (i : ℕ) where
-  pub apart_not : i < length ps → sound_before (get_or ps i unused) (drop (i + 1) ps) ≡ false → places_apart (drop i ps) ≡ false
-  unfolding places_apart sound_before
-  apart_not h e = rw (drop-cons ps i unused h, rw add-one at e)
-
-  pub apart_on : i < length ps → sound_before (get_or ps i unused) (drop (i + 1) ps) ≡ true → places_apart (drop i ps) ≡ places_apart (drop (i + 1) ps)
-  unfolding places_apart sound_before
-  apart_on h e = rw (drop-cons ps i unused h, rw add-one at e, add-one)
-
-  pub apart_end : length ps ≡ i → places_apart (drop i ps) ≡ true
-  unfolding places_apart
-  apart_end h = rw (← h, drop-length)
-
--- ---- all places are looked at, the first i of them already
-
-and_false : (b : Bool) → (b && false) ≡ false
-and_false true = refl
-and_false false = refl
-
-and_true : (b : Bool) → (b && true) ≡ b
-and_true true = refl
-and_true false = refl
-
-module _ (ps : List Place) (i : ℕ) (old : Bool) (inv : (old && places_apart (drop i ps)) ≡ places_apart ps) where
-  pub every_stops : (new : Bool) → i < length ps → sound_before (get_or ps i unused) (drop (i + 1) ps) ≡ false → new ≡ false
-      → (new && places_apart (drop (i + 1) ps)) ≡ places_apart ps
-  every_stops new h e n = rw n (sym (and_false old) ∙ ap (λ (b : Bool). old && b) (sym (apart_not ps i h e)) ∙ inv)
-
-  pub every_goes : (new : Bool) → i < length ps → sound_before (get_or ps i unused) (drop (i + 1) ps) ≡ true → new ≡ old
-      → (new && places_apart (drop (i + 1) ps)) ≡ places_apart ps
-  every_goes new h e n = rw n (ap (λ (b : Bool). old && b) (sym (apart_on ps i h e)) ∙ inv)
-
-  pub every_end : length ps ≡ i → old ≡ places_apart ps
-  every_end h = sym (and_true old) ∙ ap (λ (b : Bool). old && b) (sym (apart_end ps i h)) ∙ inv
+pub enrol_full : (n k : ℕ) (ps : List Place) → None ≡ position (λ p. not (used p)) ps → ps ≡ enrol n k ps
+enrol_full n k ps e = go (ltb (position_or_len (λ p. not (used p)) ps) (length ps)) refl e
+  where
+    go : (b : Bool) → ltb (position_or_len (λ p. not (used p)) ps) (length ps) ≡ b → None ≡ cond b (Some (position_or_len (λ p. not (used p)) ps)) None → ps ≡ enrol n k ps
+    go true out z = grind arith
+    go false out z = sym (enrol_set n k ps ∙ set_out ps _ _ (omega (arith, ltb-false _ _ out)))

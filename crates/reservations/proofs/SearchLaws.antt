@@ -1,88 +1,71 @@
--- Laws of the search over the places: each question asks whether it finds a place, and where.
+-- Each question about the places, as a search of them by one test.
 -- Assumes nothing.
-use Rattle.std.proofs.Common.{◌≡◌, ℕ, suc, ◌+◌, ◌<◌, ◌≤◌, Bool, true, false, cond, not, ◌||◌, ltb, List, [], ◌∷◌, length, get_or, drop, set, sym, refl, ap, ◌∙◌, add-one, arith, length-drop, drop-cons, ltb-false, ltb-true, le-ltb, lt-ltb, ne_eqb, ◌≢◌}
-use borrow.Author.Tests.{lt-leb}
-use lib.Dec.{leb-suc-suc}
-use lib.Seq.{drop-length}
+use Rattle.std.proofs.Common.{◌≡◌, ℕ, Bor, Bool, true, false, cond, not, ◌&&◌, ◌||◌, eqb, Option, None, Some, List, [], ◌∷◌, length, refl, ap, ◌∙◌, sym, arith}
+use Rattle.std.specs.List.{list_any, find}
+use Rattle.std.specs.Option.{option_map, option_map_or}
 use Rattle.rights.specs.declared.Place.{Place}
-use Rattle.reservations.specs.declared.places.Want.{Want}
-use Rattle.reservations.specs.declared.places.Want.TheVariants.{Of, Keyed, Used, Free}
-use Rattle.rights.specs.Places.{used, unused, registration, is_of, registered, key_of, somebody, vacant, known, enrol}
-use Rattle.rights.specs.Rights.{place_ok}
-use Rattle.reservations.specs.Search.{wants, seek, has, sound_before}
+use Rattle.rights.specs.Rights.{places_apart}
+use Rattle.reservations.specs.Search.{sound_before}
+use Rattle.rights.specs.Places.{used, is_of, registered, known, somebody, vacant, key_of}
 
--- ---- turns of the search
-
-module _ (w : Want) (ps : List Place) (i : ℕ) where
-  pub seek_here : i < length ps → wants w (get_or ps i unused) ≡ true → seek w (drop i ps) ≡ 0
-  unfolding seek
-  seek_here h e = rw (drop-cons ps i unused h, e)
-
-  pub seek_on : i < length ps → wants w (get_or ps i unused) ≡ false → seek w (drop i ps) ≡ suc (seek w (drop (i + 1) ps))
-  unfolding seek
-  seek_on h e = rw (drop-cons ps i unused h, e, add-one)
-
-  pub seek_end : length ps ≡ i → seek w (drop i ps) ≡ 0
-  unfolding seek
-  seek_end h = rw (← h, drop-length)
-
--- ---- what is found
-
-found_step : (b : Bool) (s n : ℕ) (t : Bool) → ltb s n ≡ t → ltb (cond b 0 (suc s)) (suc n) ≡ (b || t)
-found_step true s n t e = lt-ltb 0 (suc n) (omega arith)
-found_step false s n t e = leb-suc-suc (suc s) n ∙ e
-
--- a question that one wanted place answers
-module _ (w : Want) (q : List Place → Bool) (none : q [] ≡ false) (more : (p : Place) (ps : List Place) → q (p ∷ ps) ≡ (wants w p || q ps)) where
-  found : (ps : List Place) → ltb (seek w ps) (length ps) ≡ q ps
-  unfolding seek
-  found [] = sym none
-  found (p ∷ ps) = found_step (wants w p) (seek w ps) (length ps) (q ps) (found ps) ∙ sym (more p ps)
-
-pub has_found : (w : Want) (ps : List Place) → ltb (seek w ps) (length ps) ≡ has w ps
-unfolding wants registered known somebody vacant
-has_found (Of n) ps = found (Of n) (registered n) refl (λ p ps. refl) ps
-has_found (Keyed k) ps = found (Keyed k) (known k) refl (λ p ps. refl) ps
-has_found Used ps = found Used somebody refl (λ p ps. refl) ps
-has_found Free ps = found Free vacant refl (λ p ps. refl) ps
-
-ltb_add : (n a b : ℕ) → ltb (n + a) (n + b) ≡ ltb a b
-ltb_add n a b = go (ltb a b) refl
+pub registered_found : (n : ℕ) (ps : List Place) (r : Bool) → r ≡ list_any (is_of n) ps → r ≡ registered n ps
+unfolding registered
+registered_found n ps r e = e ∙ go ps
   where
-    go : (t : Bool) → ltb a b ≡ t → ltb (n + a) (n + b) ≡ ltb a b
-    go true e = lt-ltb (n + a) (n + b) (omega (arith, ltb-true a b e)) ∙ sym e
-    go false e = le-ltb (n + a) (n + b) (omega (arith, ltb-false a b e)) ∙ sym e
+    go : (ps : List Place) → list_any (is_of n) ps ≡ registered n ps
+    go [] = refl
+    go (p ∷ ps) = ap (λ (b : Bool). is_of n p || b) (go ps)
 
--- the same from a place on, of all m places
-pub has_from : (w : Want) (ps : List Place) (n r m : ℕ) → n ≤ m → length ps ≡ m → r ≡ n + seek w (drop n ps) → ltb r m ≡ has w (drop n ps)
-has_from w ps n r m h l e =
-    let k : m ≡ n + length (drop n ps) = omega (arith, length-drop n ps) in
-    rw (e, k) (ltb_add n (seek w (drop n ps)) (length (drop n ps)) ∙ has_found w (drop n ps))
+pub known_found : (k : ℕ) (ps : List Place) (r : Bool) → r ≡ list_any (λ p. used p && eqb p.key k) ps → r ≡ known k ps
+unfolding known
+known_found k ps r e = e ∙ go ps
+  where
+    go : (ps : List Place) → list_any (λ p. used p && eqb p.key k) ps ≡ known k ps
+    go [] = refl
+    go (p ∷ ps) = ap (λ (b : Bool). (used p && eqb p.key k) || b) (go ps)
 
--- ---- where it is found
+pub somebody_found : (ps : List Place) (r : Bool) → r ≡ list_any used ps → r ≡ somebody ps
+unfolding somebody
+somebody_found ps r e = e ∙ go ps
+  where
+    go : (ps : List Place) → list_any used ps ≡ somebody ps
+    go [] = refl
+    go (p ∷ ps) = ap (λ (b : Bool). used p || b) (go ps)
 
-module _ (n k : ℕ) (p : Place) (ps : List Place) where
-  key_step : (b : Bool) (i : ℕ) → key_of n ps ≡ (get_or ps i unused).key → cond b p.key (key_of n ps) ≡ (get_or (p ∷ ps) (cond b 0 (suc i)) unused).key
-  key_step true i e = refl
-  key_step false i e = e
+pub vacant_found : (ps : List Place) (r : Bool) → r ≡ list_any (λ p. not (used p)) ps → r ≡ vacant ps
+unfolding vacant
+vacant_found ps r e = e ∙ go ps
+  where
+    go : (ps : List Place) → list_any (λ p. not (used p)) ps ≡ vacant ps
+    go [] = refl
+    go (p ∷ ps) = ap (λ (b : Bool). not (used p) || b) (go ps)
 
-  enrol_step : (b : Bool) (i : ℕ) → enrol n k ps ≡ set ps i (registration n k)
-      → cond b (p ∷ enrol n k ps) (registration n k ∷ ps) ≡ set (p ∷ ps) (cond (not b) 0 (suc i)) (registration n k)
-  enrol_step true i e = ap (λ (l : List Place). p ∷ l) e
-  enrol_step false i e = refl
+key_step : (b : Bool) (p : Place) (o : Option Place) (k : ℕ) → option_map_or (λ (p : Place). p.key) o 0 ≡ k
+    → option_map_or (λ (p : Place). p.key) (cond b (Some p) o) 0 ≡ cond b p.key k
+key_step true p o k e = refl
+key_step false p o k e = e
 
-pub key_found : (n : ℕ) (ps : List Place) → key_of n ps ≡ (get_or ps (seek (Of n) ps) unused).key
-unfolding key_of seek wants
+key_found : (n : ℕ) (ps : List Place) → option_map_or (λ (p : Place). p.key) (find (is_of n) ps) 0 ≡ key_of n ps
+unfolding key_of
 key_found n [] = refl
-key_found n (p ∷ ps) = key_step n 0 p ps (is_of n p) (seek (Of n) ps) (key_found n ps)
+key_found n (p ∷ ps) = key_step (is_of n p) p (find (is_of n) ps) (key_of n ps) (key_found n ps)
 
-pub enrol_found : (n k : ℕ) (ps : List Place) → enrol n k ps ≡ set ps (seek Free ps) (registration n k)
-unfolding enrol seek wants
-enrol_found n k [] = refl
-enrol_found n k (p ∷ ps) = enrol_step n k p ps (used p) (seek Free ps) (enrol_found n k ps)
+key_shown : (o : Option (Bor Place)) → option_map_or (λ p. p.now.key) o 0 ≡ option_map_or (λ (p : Place). p.key) (option_map (λ p. p.now) o) 0
+key_shown None = refl
+key_shown (Some p) = refl
 
--- ---- a place that is used by a nexus there is not, whatever the code calls the test that found it
+pub key_of_found : (n : ℕ) (ps : List Place) (o : Option (Bor Place)) → option_map (λ p. p.now) o ≡ find (is_of n) ps → option_map_or (λ p. p.now.key) o 0 ≡ key_of n ps
+key_of_found n ps o e = key_shown o ∙ ap (λ (x : Option Place). option_map_or (λ (p : Place). p.key) x 0) e ∙ key_found n ps
 
-pub sound_beyond : (p : Place) (ps : List Place) → p.key ≢ 0 → 15 < p.nexus → false ≡ sound_before p ps
-unfolding sound_before place_ok used
-sound_beyond p ps k h = simp (ne_eqb _ _ k, lt-leb _ _ h)
+-- ---- every place sound, the first of them already
+
+pub apart_on : (old whole : Bool) (p : Place) (rest later : List Place) → rest ≡ p ∷ later → (old && places_apart rest) ≡ whole → ((old && sound_before p later) && places_apart later) ≡ whole
+unfolding places_apart sound_before
+apart_on true whole p rest later e h = ap places_apart (sym e) ∙ h
+apart_on false whole p rest later e h = h
+
+pub apart_end : (old whole : Bool) (rest : List Place) → length rest ≡ 0 → (old && places_apart rest) ≡ whole → old ≡ whole
+unfolding places_apart
+apart_end true whole [] e h = h
+apart_end false whole [] e h = h
+apart_end old whole (p ∷ ps) e h = absurd (omega arith)

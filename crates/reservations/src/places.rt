@@ -1,192 +1,170 @@
-// The registration places: one search that answers every question, one change that serves every action.
-ghost use Rattle.std.specs.Prelude.{◌≡◌, ◌+◌, ◌<◌, ◌≤◌, map, drop, slice_index_or};
-ghost use Rattle.rights.specs.Bounds.{registration_places};
-ghost use Rattle.rights.specs.Places.{unused, key_of, enrol, with_key};
+// The registration places: who is registered, and how the places change.
+// Functions and no methods: the records are declared in `rights`, which has no code.
+ghost use Rattle.std.specs.Prelude.{◌≡◌, map};
+ghost use Rattle.rights.specs.Places.{unused, used, is_of, registered, known, somebody, vacant, key_of, enrol, rekeyed, without, alone};
 ghost use Rattle.rights.specs.Rights.{places_apart};
-ghost use Rattle.reservations.specs.Search.{wants, seek, has, after, sound_before};
+ghost use Rattle.reservations.specs.Search.{sound_before};
 
 use rights::{LAST_NEXUS, Place, REGISTRATION_PLACES};
 
-// What a place is looked for by: its nexus, its key, that it is used, that it is free.
-#[derive(Clone, Copy)]
-pub enum Want {
-    Of(u64),
-    Keyed(u64),
-    Used,
-    Free,
+// What an unused place holds.
+pub(crate) const UNUSED: Place = Place { nexus: 0, key: 0 };
+
+// Whether a place is used.
+#[tactic(auto, unfolding(rights::specs::Places::used))]
+pub fn is_used(place: &Place) -> bool
+    ensures { result ≡ used place.now }
+{
+    place.key != 0
 }
 
-fn wanted(place: Place, want: Want) -> bool
-    ensures { result ≡ wants want place }
+// Whether a place is that of a nexus.
+#[tactic(auto, unfolding(rights::specs::Places::is_of))]
+fn is_of(place: &Place, nexus: u64) -> bool
+    ensures { result ≡ is_of nexus place.now }
 {
-    match want {
-        Want::Of(nexus) => if place.key == 0 {
-            false
-        } else {
-            place.nexus == nexus
-        },
-        Want::Keyed(key) => if place.key == 0 {
-            false
-        } else {
-            place.key == key
-        },
-        Want::Used => !(place.key == 0),
-        Want::Free => place.key == 0,
-    }
+    is_used(place) && place.nexus == nexus
 }
 
-// The first place wanted, from a place on; 8 where there is none.
-fn seek_from(places: [Place; REGISTRATION_PLACES], want: Want, from: usize) -> usize
-    requires { from ≤ registration_places }
-    ensures { result ≡ from + seek want (drop from places) }
+// Whether a nexus is registered.
+pub fn is_registered(places: &[Place], nexus: u64) -> bool
+    ensures { result ≡ registered nexus places.now }
 {
-    let mut i = from;
-    while i < REGISTRATION_PLACES {
-        if wanted(places[i], want) {
-            return i;
-        }
-        i = i + 1;
-    }
-    REGISTRATION_PLACES
+    places.iter().any(|place| is_of(place, nexus))
 }
 
-// The first place wanted; 8 where there is none.
-fn seek(places: [Place; REGISTRATION_PLACES], want: Want) -> usize
-    ensures { result ≡ seek want places }
+// Whether a key is that of a registration.
+pub fn is_known(places: &[Place], key: u64) -> bool
+    ensures { result ≡ known key places.now }
 {
-    seek_from(places, want, 0)
+    places
+        .iter()
+        .any(|place| is_used(place) && place.key == key)
 }
 
-// Whether there is a place wanted, from a place on.
-fn has_from(places: [Place; REGISTRATION_PLACES], want: Want, from: usize) -> bool
-    requires { from ≤ registration_places }
-    ensures { result ≡ has want (drop from places) }
+// Whether anybody is registered.
+pub fn has_registrant(places: &[Place]) -> bool
+    ensures { result ≡ somebody places.now }
 {
-    seek_from(places, want, from) < REGISTRATION_PLACES
+    places.iter().any(is_used)
 }
 
-// Whether there is a place wanted.
-pub fn has(places: [Place; REGISTRATION_PLACES], want: Want) -> bool
-    ensures { result ≡ has want places }
+// Whether a place is free.
+pub fn has_free(places: &[Place]) -> bool
+    ensures { result ≡ vacant places.now }
 {
-    has_from(places, want, 0)
+    places.iter().any(|place| !is_used(place))
 }
 
 // The key of a nexus; 0 where it is not registered.
-pub fn key_of(places: [Place; REGISTRATION_PLACES], nexus: u64) -> u64
-    ensures { result ≡ key_of nexus places }
+pub fn key_of(places: &[Place], nexus: u64) -> u64
+    ensures { result ≡ key_of nexus places.now }
 {
-    let i = seek(places, Want::Of(nexus));
-    if i < REGISTRATION_PLACES {
-        places[i].key
-    } else {
-        0
-    }
+    places
+        .iter()
+        .find(|place| is_of(place, nexus))
+        .map_or(0, |place| place.key)
 }
 
 // The lowest free place given to a nexus.
 pub fn enrol(
-    places: [Place; REGISTRATION_PLACES],
+    places: &[Place; REGISTRATION_PLACES],
     nexus: u64,
     key: u64,
 ) -> [Place; REGISTRATION_PLACES]
-    ensures { result ≡ enrol nexus key places }
+    ensures { result ≡ enrol nexus key places.now }
 {
-    let i = seek(places, Want::Free);
-    let mut after = places;
-    if i < REGISTRATION_PLACES {
+    let mut after = *places;
+    if let Some(i) = places.iter().position(|place| !is_used(place)) {
         after[i] = Place { nexus, key };
     }
     after
 }
 
-// What is done to every place: the key of a nexus changed (0 unregisters), all with a key removed, those but a nexus, all but a nexus, or all emptied.
-#[derive(Clone, Copy)]
-pub enum Change {
-    Rekey(u64, u64),
-    Remove(u64),
-    RemoveBut(u64, u64),
-    Only(u64),
-    Empty,
-}
-
-// The same place with another key.
-fn with_key(place: Place, key: u64) -> Place
-    ensures { result ≡ with_key place key }
+// A place once a nexus gave a key.
+#[tactic(auto, unfolding(rights::specs::Places::rekeyed, rights::specs::Places::with_key))]
+fn rekey(place: Place, nexus: u64, key: u64) -> Place
+    ensures { result ≡ rekeyed nexus key place }
 {
-    let mut after = place;
-    after.key = key;
-    after
-}
-
-fn changed(place: Place, change: Change) -> Place
-    ensures { result ≡ after change place }
-{
-    let none = Place { nexus: 0, key: 0 };
-    match change {
-        Change::Rekey(nexus, key) => {
-            if !wanted(place, Want::Of(nexus)) {
-                return place;
-            }
-            if key == 0 { none } else { with_key(place, key) }
-        }
-        Change::Remove(key) => if place.key == key { none } else { place },
-        Change::RemoveBut(key, nexus) => {
-            if place.nexus == nexus {
-                return place;
-            }
-            if place.key == key { none } else { place }
-        }
-        Change::Only(nexus) => if wanted(place, Want::Of(nexus)) {
-            place
-        } else {
-            none
-        },
-        Change::Empty => none,
+    if !is_of(&place, nexus) {
+        return place;
+    }
+    if key == 0 {
+        UNUSED
+    } else {
+        Place { key, ..place }
     }
 }
 
-// Every place changed.
-pub fn change_all(places: [Place; REGISTRATION_PLACES], by: Change) -> [Place; REGISTRATION_PLACES]
-    ensures { result ≡ map (after by) places }
+// The key of a nexus changed; 0 unregisters.
+pub fn rekeyed(
+    places: &[Place; REGISTRATION_PLACES],
+    nexus: u64,
+    key: u64,
+) -> [Place; REGISTRATION_PLACES]
+    ensures { result ≡ map (rekeyed nexus key) places.now }
 {
-    let mut all = places;
-    let mut i: usize = 0;
-    while i < REGISTRATION_PLACES {
-        all[i] = changed(all[i], by);
-        i = i + 1;
+    places.map(|place| rekey(place, nexus, key))
+}
+
+// A place once all with a key are removed, but for the nexus that is spared.
+#[tactic(auto, unfolding(rights::specs::Places::without, rights::specs::Places::spares))]
+fn remove(place: Place, key: u64, spared: Option<u64>) -> Place
+    ensures { result ≡ without spared key place }
+{
+    if place.key == key && spared != Some(place.nexus) {
+        UNUSED
+    } else {
+        place
     }
-    all
+}
+
+// All with a key removed, but for the nexus that is spared.
+pub fn without(
+    places: &[Place; REGISTRATION_PLACES],
+    key: u64,
+    spared: Option<u64>,
+) -> [Place; REGISTRATION_PLACES]
+    ensures { result ≡ map (without spared key) places.now }
+{
+    places.map(|place| remove(place, key, spared))
+}
+
+// All but a nexus removed.
+pub fn alone(places: &[Place; REGISTRATION_PLACES], nexus: u64) -> [Place; REGISTRATION_PLACES]
+    ensures { result ≡ map (alone nexus) places.now }
+{
+    places.map(|place| if is_of(&place, nexus) { place } else { UNUSED })
+}
+
+// All removed.
+pub fn emptied(places: &[Place; REGISTRATION_PLACES]) -> [Place; REGISTRATION_PLACES]
+    ensures { result ≡ map (λ p. unused) places.now }
+{
+    places.map(|_| UNUSED)
 }
 
 // Whether a place holds what it may, and no later one its nexus.
-#[tactic(auto, using(crate::proofs::SearchLaws::sound_beyond))]
-fn sound(places: [Place; REGISTRATION_PLACES], i: usize) -> bool
-    requires { i < registration_places }
-    ensures { result ≡ sound_before (slice_index_or places i unused) (drop (i + 1) places) }
+#[tactic(auto, unfolding(crate::specs::Search::sound_before, rights::specs::Rights::place_ok, rights::specs::Places::used))]
+fn is_sound(place: &Place, later: &[Place]) -> bool
+    ensures { result ≡ sound_before place.now later.now }
 {
-    let place = places[i];
-    if place.key == 0 {
+    if !is_used(place) {
         return place.nexus == 0;
     }
-    if LAST_NEXUS < place.nexus {
-        return false;
-    }
-    !has_from(places, Want::Of(place.nexus), i + 1)
+    place.nexus <= LAST_NEXUS && !is_registered(later, place.nexus)
 }
 
 // Whether the used places have different nexuses up to 15, and the unused ones hold zeros.
-pub fn apart(places: [Place; REGISTRATION_PLACES]) -> bool
-    ensures { result ≡ places_apart places }
+pub fn apart(places: &[Place]) -> bool
+    ensures { result ≡ places_apart places.now }
 {
     // every place is looked at: one way out costs less than eight
     let mut all = true;
-    let mut i: usize = 0;
-    while i < REGISTRATION_PLACES {
-        if !sound(places, i) {
-            all = false;
-        }
-        i = i + 1;
+    let mut rest = places;
+    while let Some((place, later)) = rest.split_first() {
+        all &= is_sound(place, later);
+        rest = later;
     }
     all
 }

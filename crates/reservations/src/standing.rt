@@ -1,150 +1,114 @@
 // The rights as a whole: which are valid, who holds, when a reservation ends, the generation.
 ghost use Rattle.std.specs.Prelude.{◌≡◌};
-ghost use Rattle.rights.specs.Rights.{holds, holder_key, stands, rights_ok, with_places, with_reservation};
-ghost use Rattle.rights.specs.Rights.{with_generation, held, gone, ended, settled, raised, no_rights};
+ghost use Rattle.rights.specs.Rights.{holds, holder_key, stands, rights_ok, held, gone, ended, settled, raised, no_rights};
 
-use crate::places::Want;
+use crate::places::UNUSED;
 use crate::{kinds, places};
-use rights::{Place, REGISTRATION_PLACES, Rights};
+use rights::{NO_TYPE, REGISTRATION_PLACES, Rights};
 
 // No registration, no reservation, generation 0.
+#[tactic(auto, unfolding(rights::specs::Rights::no_rights))]
 pub fn none() -> Rights
     ensures { result ≡ no_rights }
 {
-    let places = [Place { nexus: 0, key: 0 }; REGISTRATION_PLACES];
     Rights {
-        places,
+        places: [UNUSED; REGISTRATION_PLACES],
         holder: 0,
         generation: 0,
-        kind: 0,
+        kind: NO_TYPE,
     }
 }
 
 // Whether a nexus holds the reservation.
-pub fn holds(rights: Rights, nexus: u64) -> bool
-    ensures { result ≡ holds rights nexus }
+#[tactic(auto, unfolding(rights::specs::Rights::holds))]
+pub fn holds(rights: &Rights, nexus: u64) -> bool
+    ensures { result ≡ holds rights.now nexus }
 {
-    if kinds::one_holds(rights.kind) {
-        return rights.holder == nexus;
-    }
-    if kinds::all_hold(rights.kind) {
-        let places = rights.places;
-        return places::has(places, Want::Of(nexus));
-    }
-    false
+    (kinds::one_holds(rights.kind) && rights.holder == nexus)
+        || (kinds::all_hold(rights.kind) && places::is_registered(&rights.places, nexus))
 }
 
 // The key of the one nexus that holds; 0 where all hold or none does.
-pub fn holder_key(rights: Rights) -> u64
-    ensures { result ≡ holder_key rights }
+#[tactic(auto, unfolding(rights::specs::Rights::holder_key))]
+pub fn holder_key(rights: &Rights) -> u64
+    ensures { result ≡ holder_key rights.now }
 {
     if kinds::one_holds(rights.kind) {
-        let places = rights.places;
-        return places::key_of(places, rights.holder);
+        places::key_of(&rights.places, rights.holder)
+    } else {
+        0
     }
-    0
 }
 
-// Whether a reservation has who holds it, or there is none.
-fn stands(places: [Place; REGISTRATION_PLACES], kind: u32, holder: u64) -> bool
-    ensures { result ≡ stands places kind holder }
+// Whether a reservation has who holds it, or there is none. Most stores have none, and need no look at the places for it.
+#[tactic(auto, unfolding(rights::specs::Rights::stands))]
+fn stands(rights: &Rights) -> bool
+    ensures { result ≡ stands rights.now.places rights.now.kind rights.now.holder }
 {
-    if kinds::one_holds(kind) {
-        return places::has(places, Want::Of(holder));
-    }
-    if !(holder == 0) {
-        return false;
-    }
-    if kinds::all_hold(kind) {
-        return places::has(places, Want::Used);
-    }
-    kind == 0
+    (rights.kind == NO_TYPE && rights.holder == 0)
+        || (kinds::one_holds(rights.kind) && places::is_registered(&rights.places, rights.holder))
+        || (kinds::all_hold(rights.kind)
+            && rights.holder == 0
+            && places::has_registrant(&rights.places))
 }
 
 // Whether the rights are valid.
-pub fn valid(rights: Rights) -> bool
-    ensures { result ≡ rights_ok rights }
+#[tactic(auto, unfolding(rights::specs::Rights::rights_ok, rights::specs::Rights::places_ok))]
+pub fn valid(rights: &Rights) -> bool
+    ensures { result ≡ rights_ok rights.now }
 {
-    let places = rights.places;
-    if !places::apart(places) {
-        return false;
-    }
-    // most stores have no reservation, and need no look at the places for it
-    if rights.kind == 0 {
-        return rights.holder == 0;
-    }
-    stands(places, rights.kind, rights.holder)
-}
-
-// The rights with other places.
-pub fn with_places(rights: Rights, places: [Place; REGISTRATION_PLACES]) -> Rights
-    ensures { result ≡ with_places rights places }
-{
-    let mut after = rights;
-    after.places = places;
-    after
-}
-
-// The rights with another reservation.
-fn with_reservation(rights: Rights, kind: u32, holder: u64) -> Rights
-    ensures { result ≡ with_reservation rights kind holder }
-{
-    let mut after = rights;
-    after.kind = kind;
-    after.holder = holder;
-    after
-}
-
-// The rights with another generation.
-fn with_generation(rights: Rights, generation: u32) -> Rights
-    ensures { result ≡ with_generation rights generation }
-{
-    let mut after = rights;
-    after.generation = generation;
-    after
+    places::apart(&rights.places) && stands(rights)
 }
 
 // The rights with a reservation by a nexus.
+#[tactic(auto, unfolding(rights::specs::Rights::held, rights::specs::Rights::with_reservation))]
 pub fn held(rights: Rights, kind: u32, nexus: u64) -> Rights
     ensures { result ≡ held rights kind nexus }
 {
-    if kinds::all_hold(kind) {
-        return with_reservation(rights, kind, 0);
+    let holder = if kinds::all_hold(kind) { 0 } else { nexus };
+    Rights {
+        kind,
+        holder,
+        ..rights
     }
-    with_reservation(rights, kind, nexus)
 }
 
 // The rights with no reservation.
+#[tactic(auto, unfolding(rights::specs::Rights::ended, rights::specs::Rights::with_reservation))]
 pub fn ended(rights: Rights) -> Rights
     ensures { result ≡ ended rights }
 {
-    with_reservation(rights, 0, 0)
+    Rights {
+        kind: NO_TYPE,
+        holder: 0,
+        ..rights
+    }
 }
 
 // Whether the holder, or the last registrant, is gone.
-fn gone(rights: Rights) -> bool
-    ensures { result ≡ gone rights }
+#[tactic(auto, unfolding(rights::specs::Rights::gone))]
+fn gone(rights: &Rights) -> bool
+    ensures { result ≡ gone rights.now }
 {
-    let places = rights.places;
-    if kinds::one_holds(rights.kind) {
-        return !places::has(places, Want::Of(rights.holder));
-    }
-    if kinds::all_hold(rights.kind) {
-        return !places::has(places, Want::Used);
-    }
-    false
+    (kinds::one_holds(rights.kind) && !places::is_registered(&rights.places, rights.holder))
+        || (kinds::all_hold(rights.kind) && !places::has_registrant(&rights.places))
 }
 
 // A reservation ends where its holder, or the last registrant, is gone.
+#[tactic(auto, unfolding(rights::specs::Rights::settled))]
 pub fn settled(rights: Rights) -> Rights
     ensures { result ≡ settled rights }
 {
-    if gone(rights) { ended(rights) } else { rights }
+    if gone(&rights) { ended(rights) } else { rights }
 }
 
 // The generation one higher; after FFFF_FFFFh it is 0.
+#[tactic(auto, unfolding(rights::specs::Rights::raised, rights::specs::Rights::with_generation))]
 pub fn raised(rights: Rights) -> Rights
     ensures { result ≡ raised rights }
 {
-    with_generation(rights, std::num::wrapping_add_u32(rights.generation, 1))
+    Rights {
+        generation: rights.generation.wrapping_add(1),
+        ..rights
+    }
 }

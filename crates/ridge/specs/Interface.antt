@@ -7,8 +7,7 @@ use Rattle.store.specs.declared.Unit.{Unit}
 use Rattle.store.specs.Store.{Store, Call, Result}
 use Rattle.store.specs.Step.{step}
 use Rattle.store.specs.Fresh.{fresh, FreshResult}
-use Rattle.store.specs.Room.{room_of}
-use Rattle.store.specs.declared.Room.{Room}
+use Rattle.store.specs.Room.{Room, room_of}
 
 -- all that a call leaves: document 01's answer number, the returned length, the unit, and every lent word and byte
 pub record Left : Type 0 where

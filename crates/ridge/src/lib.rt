@@ -2,17 +2,15 @@
 // host/include/ridge.h declares it.
 // The record is C's struct of the same fields, 168 bytes with no padding: the capacity at 0, the rights at 8, and in these the places at 0,
 // the holder at 128, the generation at 136 and the type at 140; the attentions at 152. Any 168 bytes are one, so nothing is required of them.
-// Each function takes the record out, calls its half in `by_value`, and puts the record back.
 #![tactic(auto)]
 
 ghost use Rattle.std.specs.Prelude.{◌≡◌};
 ghost use Rattle.reply.specs.Contract.{store_of, call_of};
 ghost use Rattle.ridge.specs.Interface.{executed, freshened, roomed, leaves, leaves_fresh, leaves_room};
 
+use answers::Answer;
 use pool::MARK_WORDS;
 use store::Unit;
-
-mod by_value;
 
 // Makes a fresh store: its unit, its owners and its marks, and whether its format is one. The answer is document 01's number.
 pub fn ridge_fresh(
@@ -25,11 +23,13 @@ pub fn ridge_fresh(
     ensures { leaves_fresh result unit.new owners.new marks.new
         ≡ freshened capacity format unit.old owners.old marks.old }
 {
-    let before = *unit;
-    let done = by_value::fresh(capacity, format, before, owners, marks);
-    let after = done.unit;
-    *unit = after;
-    done.answer
+    match commands::fresh(capacity, format, owners, marks) {
+        Ok(made) => {
+            *unit = made;
+            answers::number_of(Answer::Good)
+        }
+        Err(answer) => answers::number_of(answer),
+    }
 }
 
 // Runs one command on a store of a format. The answer is document 01's number; `returned` is how many bytes of data-in were written.
@@ -52,16 +52,16 @@ pub fn ridge_execute(
         (store_of format unit.old owners.old marks.old medium.old)
         (call_of nexus cdb.now data_out.now data_in.old sense.old) }
 {
-    let before = *unit;
-    let done = by_value::execute(
-        format, before, owners, marks, medium, nexus, cdb, data_out, data_in, sense, returned,
+    let outcome = commands::execute(
+        format, *unit, owners, marks, medium, nexus, cdb, data_out, data_in, sense,
     );
-    let after = done.unit;
-    *unit = after;
-    done.answer
+    *unit = outcome.unit;
+    *returned = outcome.returned as u64;
+    answers::number_of(outcome.answer)
 }
 
 // Tells how many slots of a store are free, and which is the lowest of them. The answer is document 01's number; any but 0 writes neither.
+#[tactic(auto, using(crate::proofs::InterfaceLaws::rooms_refused))]
 pub fn ridge_room(
     format: u64,
     unit: &Unit,
@@ -76,14 +76,12 @@ pub fn ridge_room(
         (store_of format unit.now owners.now marks.now medium.now)
         free_slots.old lowest_free.old }
 {
-    let record = *unit;
-    by_value::room(
-        format,
-        record,
-        owners,
-        marks,
-        medium,
-        free_slots,
-        lowest_free,
-    )
+    match commands::room(format, *unit, owners, marks, medium) {
+        Ok(room) => {
+            *free_slots = room.free as u64;
+            *lowest_free = room.lowest as u64;
+            answers::number_of(Answer::Good)
+        }
+        Err(unusable) => answers::number_of(unusable),
+    }
 }

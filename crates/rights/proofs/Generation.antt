@@ -5,6 +5,9 @@ use mathlib.Core.Bool.{Bool, true, false, not, ◌||◌, cond}
 use mathlib.Core.List.{map}
 use Prim.Native.Nat.{ℕ, ◌+◌, ◌%◌, ◌^◌}
 use lib.Dec.{T, eqb}
+use Rattle.std.specs.Prelude.{Result, Ok}
+use Rattle.std.specs.Result.{result_unwrap_or}
+use Rattle.answers.specs.declared.Answer.{Answer}
 use Rattle.answers.specs.declared.Answer.TheVariants.{Good}
 use Rattle.answers.specs.Order.{first, refuses}
 use Rattle.answers.proofs.OrderLaws.{if_good_law, if_refused}
@@ -80,12 +83,13 @@ acted_generation Preempt r n o =
     either (eqb o.service 0) _ _ (next_generation r.generation) (taking_over_generation r n o.kind) (preempting_generation r n o.kind o.service)
 acted_generation RegisterIgnoring r n o = registering_generation r n o.service
 
--- of a decision: it rises at a GOOD, and a refusal leaves it
+-- of a decision: it rises at a GOOD, and a refusal leaves the rights
 pub decided_good : (a : Action) (r : Rights) (n : ℕ) (o : Parameters) → first (decision_rows a r n o) ≡ Good
-    → (decided a r n o).rights.generation ≡ cond (raises a r n o) (next_generation r.generation) r.generation
+    → (result_unwrap_or (decided a r n o) r).generation ≡ cond (raises a r n o) (next_generation r.generation) r.generation
 unfolding decided
-decided_good a r n o e = ap (λ (x : Rights). x.generation) (if_good_law _ (acted a r n o) r e) ∙ acted_generation a r n o
+decided_good a r n o e = ap (λ (x : Result Rights Answer). (result_unwrap_or x r).generation) (if_good_law _ (Ok (acted a r n o)) _ e) ∙ acted_generation a r n o
 
-pub decided_refused : (a : Action) (r : Rights) (n : ℕ) (o : Parameters) → T (refuses (first (decision_rows a r n o))) → (decided a r n o).rights ≡ r
+pub decided_refused : (a : Action) (r : Rights) (n : ℕ) (o : Parameters) → T (refuses (first (decision_rows a r n o)))
+    → result_unwrap_or (decided a r n o) r ≡ r
 unfolding decided
-decided_refused a r n o t = if_refused _ (acted a r n o) r t
+decided_refused a r n o t = ap (λ (x : Result Rights Answer). result_unwrap_or x r) (if_refused _ (Ok (acted a r n o)) _ t)

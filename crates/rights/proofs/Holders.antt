@@ -4,11 +4,12 @@ use mathlib.Core.Path.{◌≡◌, refl, sym, ap, ◌∙◌, subst}
 use mathlib.Core.Bool.{Bool, true, false, not, ◌&&◌, ◌||◌, cond, true≢false, and-false}
 use mathlib.Core.List.{List, [], ◌∷◌, map}
 use Prim.Native.Nat.{ℕ}
+use Rattle.std.specs.Prelude.{Option, None, Some}
 use lib.Dec.{T, eqb, eqb→eq, eqb_refl, T_not}
 use Rattle.fields.proofs.Tests.{and_l, and_r, both, or_l, or_r, nor, nor_l, nor_r, not_map, not_not, not_not_intro, test, by_test, not_eqb_sym, T_true, T_false, true→T, false→T}
 use Rattle.rights.specs.declared.Place.{Place}
 use Rattle.rights.specs.declared.Rights.{Rights}
-use Rattle.rights.specs.Places.{unused, registration, used, is_of, registered, key_of, somebody, vacant, enrol, with_key, rekeyed, Spared, nobody, sender, spares, without}
+use Rattle.rights.specs.Places.{unused, registration, used, is_of, registered, key_of, somebody, vacant, enrol, with_key, rekeyed, nobody, sender, spares, without}
 use Rattle.rights.specs.Rights.{is_one_of, is_type, one_holds, all_hold, holds, holder_key, places_apart, stands, rights_ok, with_places, with_reservation, with_generation, held, gone, ended, settled, raised}
 use Rattle.rights.specs.Actions.{registering, reserving, preempting}
 use Rattle.rights.proofs.RightsLaws.{one_not_none, one_not_all}
@@ -129,12 +130,12 @@ key_rekeyed n k (p ∷ ps) t =
 
 -- ---- registrations with a key removed
 
-spares_nexus : (x : Spared) (p q : Place) → p.nexus ≡ q.nexus → spares x p ≡ spares x q
+spares_nexus : (x : Option ℕ) (p q : Place) → p.nexus ≡ q.nexus → spares x p ≡ spares x q
 unfolding spares
-spares_nexus nobody p q e = refl
-spares_nexus (sender n) p q e = ap (λ (y : ℕ). eqb y n) e
+spares_nexus None p q e = refl
+spares_nexus (Some n) p q e = ap (λ (y : ℕ). eqb y n) e
 
-module _ (x : Spared) (k m : ℕ) where
+module _ (x : Option ℕ) (k m : ℕ) where
   -- is the nexus m, which has this key, among those removed
   unfoldable pub removed : ℕ → Bool
   removed key = eqb key k && not (spares x (registration m key))

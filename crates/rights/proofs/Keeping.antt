@@ -4,6 +4,7 @@ use mathlib.Core.Path.{◌≡◌, refl, sym, ap, ◌∙◌, subst}
 use mathlib.Core.Bool.{Bool, true, false, not, ◌&&◌, ◌||◌, cond}
 use mathlib.Core.List.{List, [], ◌∷◌, map}
 use Prim.Native.Nat.{ℕ, suc, ◌≤◌}
+use Rattle.std.specs.Prelude.{Option}
 use lib.Dec.{T, eqb, leb, eqb→eq, eqb_refl, le→leb, T_not}
 use lib.ListN.{length, length-map}
 use Rattle.fields.proofs.Tests.{and_l, and_r, both, or_l, or_r, or_map, or_map², nor_l, nor_r, nor, not_map, not_not, nand_rest, true→T, false→T, by_test}
@@ -15,7 +16,7 @@ use Rattle.rights.specs.declared.Rights.{Rights}
 use Rattle.rights.specs.declared.Parameters.{Parameters}
 use Rattle.rights.specs.declared.Action.{Action}
 use Rattle.rights.specs.declared.Action.TheVariants.{Register, Reserve, Release, Clear, Preempt, RegisterIgnoring}
-use Rattle.rights.specs.Places.{unused, registration, used, is_of, registered, somebody, key_of, enrol, with_key, rekeyed, Spared, nobody, sender, spares, without, alone}
+use Rattle.rights.specs.Places.{unused, registration, used, is_of, registered, somebody, key_of, enrol, with_key, rekeyed, nobody, sender, spares, without, alone}
 use Rattle.rights.specs.Rights.{is_one_of, is_type, one_holds, all_hold, holds, place_ok, places_apart, places_ok, stands, rights_ok, with_places, with_reservation, with_generation, held, holder_key, gone, ended, settled, raised}
 use Rattle.rights.specs.Actions.{stranger, key_wrong, decision_rows, registering, reserving, releasing, clearing, preempting, taking_over, acted}
 use Rattle.rights.proofs.DecisionLaws.{later_good}
@@ -133,7 +134,7 @@ rekeyed_thin n k p =
     (λ t. by_test (eqb k 0) (λ z. Thin p (cond z unused (with_key p k))) (λ z. thin_unused p) (λ z. thin_key k p (is_of_used n p t) z))
     (λ t. thin_same p)
 
-pub without_thin : (s : Spared) (k : ℕ) (p : Place) → Thin p (without s k p)
+pub without_thin : (s : Option ℕ) (k : ℕ) (p : Place) → Thin p (without s k p)
 unfolding without
 without_thin s k p =
     by_test (eqb p.key k && not (spares s p)) (λ b. Thin p (cond b unused p)) (λ t. thin_unused p) (λ t. thin_same p)
@@ -350,7 +351,7 @@ preempting_ok r n kind k s u t =
     (λ h. raised_ok _ (held_ok _ kind n s (spared k n r.places u) (left (sender n))))
     (λ h. raised_ok _ (settled_ok r _ t (left nobody)))
   where
-    left : (x : Spared) → T (places_ok (map (without x k) r.places))
+    left : (x : Option ℕ) → T (places_ok (map (without x k) r.places))
     left x = thin_places (without x k) (without_thin x k) r.places (rights_places r t)
 
 -- all are removed but the sender

@@ -1,8 +1,9 @@
 -- The six actions of PERSISTENT RESERVE OUT: when each is refused, and what it changes.
 -- Assumes nothing.
-use Rattle.std.specs.Prelude.{Bool, false, not, ◌&&◌, ◌||◌, cond, List, [], ◌∷◌, ◌++◌, map, ℕ, eqb}
+use Rattle.std.specs.Prelude.{Bool, false, not, ◌&&◌, ◌||◌, cond, List, [], ◌∷◌, ◌++◌, map, ℕ, eqb, Result, Ok, Err}
 use Rattle.fields.specs.Field.{bit}
 use Rattle.fields.specs.Bits.{Bits, within, whole}
+use Rattle.answers.specs.declared.Answer.{Answer}
 use Rattle.answers.specs.declared.Answer.TheVariants.{Conflict}
 use Rattle.answers.specs.Answers.{list_field, no_place, other_type}
 use Rattle.answers.specs.Order.{Row, ◌if◌, first, if_good}
@@ -10,7 +11,6 @@ use Rattle.rights.specs.declared.Rights.{Rights}
 use Rattle.rights.specs.declared.Action.{Action}
 use Rattle.rights.specs.declared.Action.TheVariants.{Register, Reserve, Release, Clear, Preempt, RegisterIgnoring}
 use Rattle.rights.specs.declared.Parameters.{Parameters}
-use Rattle.rights.specs.declared.Decision.{Decision}
 use Rattle.rights.specs.Places.{unused, registered, key_of, vacant, known, enrol, rekeyed, without, nobody, sender, alone}
 use Rattle.rights.specs.Rights.{all_hold, holds, held, holder_key, ended, with_places, settled, raised}
 
@@ -119,7 +119,10 @@ acted Clear r n o = clearing r
 acted Preempt r n o = cond (eqb o.service 0) (taking_over r n o.kind) (preempting r n o.kind o.service)
 acted RegisterIgnoring r n o = registering r n o.service
 
--- what an action decides: a refusal leaves the rights as they are
-unfoldable pub decided : Action → Rights → ℕ → Parameters → Decision
-decided a r n o =
-    record { answer = first (decision_rows a r n o); rights = if_good (first (decision_rows a r n o)) (acted a r n o) r }
+-- a refusal, or what is made where nothing refuses
+abbrev pub unless_refused : {A : Type 0} → Answer → A → Result A Answer
+unless_refused answer made = if_good answer (Ok made) (Err answer)
+
+-- what an action decides: the first row that refuses, or the rights that it makes
+unfoldable pub decided : Action → Rights → ℕ → Parameters → Result Rights Answer
+decided a r n o = unless_refused (first (decision_rows a r n o)) (acted a r n o)

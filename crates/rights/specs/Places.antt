@@ -1,6 +1,6 @@
 -- The registration places: who is registered, with which key, and where the next one goes.
 -- Assumes nothing.
-use Rattle.std.specs.Prelude.{Bool, false, not, ◌&&◌, ◌||◌, cond, List, [], ◌∷◌, ℕ, eqb}
+use Rattle.std.specs.Prelude.{Bool, false, not, ◌&&◌, ◌||◌, cond, List, [], ◌∷◌, Option, None, Some, ℕ, eqb}
 use Rattle.rights.specs.declared.Place.{Place}
 
 -- "unused places hold zeros"
@@ -59,16 +59,18 @@ unfoldable pub rekeyed : ℕ → ℕ → Place → Place
 rekeyed n k p = cond (is_of n p) (cond (eqb k 0) unused (with_key p k)) p
 
 -- who is left where all with a key are removed: nobody, or the sender
-pub data Spared : Type 0 where
-  nobody : Spared
-  sender : ℕ → Spared
+abbrev pub nobody : Option ℕ
+nobody = None
 
-unfoldable pub spares : Spared → Place → Bool
-spares nobody p = false
-spares (sender n) p = eqb p.nexus n
+abbrev pub sender : ℕ → Option ℕ
+sender n = Some n
+
+unfoldable pub spares : Option ℕ → Place → Bool
+spares None p = false
+spares (Some n) p = eqb p.nexus n
 
 -- the place p after all with the key k are removed
-unfoldable pub without : Spared → ℕ → Place → Place
+unfoldable pub without : Option ℕ → ℕ → Place → Place
 without s k p = cond (eqb p.key k && not (spares s p)) unused p
 
 -- Q-3: "removes every other registration": the place p after all but the nexus n are removed

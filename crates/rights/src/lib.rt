@@ -2,8 +2,6 @@
 // No code: the types stand here, what they mean in specs/, the laws in proofs/.
 #![tactic(auto)]
 
-use answers::Answer;
-
 // The highest nexus number.
 pub const LAST_NEXUS: u64 = 15;
 
@@ -18,6 +16,21 @@ pub const REGISTRATIONS_PREEMPTED: u8 = 1;
 pub const RESERVATIONS_PREEMPTED: u8 = 2;
 
 pub const RESERVATIONS_RELEASED: u8 = 3;
+
+// The types of a reservation, and the type where there is none.
+pub const NO_TYPE: u32 = 0;
+
+pub const WRITE_EXCLUSIVE: u32 = 1;
+
+pub const EXCLUSIVE_ACCESS: u32 = 3;
+
+pub const WRITE_EXCLUSIVE_REGISTRANTS_ONLY: u32 = 5;
+
+pub const EXCLUSIVE_ACCESS_REGISTRANTS_ONLY: u32 = 6;
+
+pub const WRITE_EXCLUSIVE_ALL_REGISTRANTS: u32 = 7;
+
+pub const EXCLUSIVE_ACCESS_ALL_REGISTRANTS: u32 = 8;
 
 // How many registration places there are.
 pub const REGISTRATION_PLACES: usize = 8;
@@ -35,7 +48,7 @@ pub struct Place {
     pub key: u64,
 }
 
-// The registrations, the reservation (type 0 where there is none) and the generation.
+// The registrations, the reservation (NO_TYPE where there is none) and the generation.
 #[repr(C)]
 #[derive(Clone, Copy)]
 pub struct Rights {
@@ -63,11 +76,4 @@ pub struct Parameters {
     pub key: u64,
     pub service: u64,
     pub flags: u8,
-}
-
-// The answer to an action, and the rights after it.
-#[derive(Clone, Copy)]
-pub struct Decision {
-    pub answer: Answer,
-    pub rights: Rights,
 }

@@ -5,12 +5,11 @@ use mathlib.Core.List.{List, [], ◌∷◌, ◌++◌, append_assoc}
 use Prim.Native.Nat.{ℕ, suc, ◌+◌, ◌-◌, ◌*◌, ◌≤◌, ◌<◌}
 use native.Mathlib.Omega.{arith}
 use native.Mathlib.Nat.{zero-add}
-use lib.ListN.{length, take, length-append}
-use lib.Seq.{take_all}
+use lib.ListN.{length, drop, length-append}
 use borrow.Rule.Slice.PartMut.{put_mid}
 use Rattle.fields.specs.Bytes.{put, zeros}
 use Rattle.fields.specs.Field.{bytes}
-use Rattle.fields.proofs.BytesLaws.{put_none, put_next, length_put, length_zeros}
+use Rattle.fields.proofs.BytesLaws.{put_is, put_none, put_next, length_put, length_zeros}
 use Rattle.fields.proofs.FieldLaws.{length_bytes}
 use Rattle.map.proofs.Blocks.{lent_back}
 use Rattle.runs.specs.Runs.{most_runs, Run, run_at, runs_from}
@@ -124,15 +123,19 @@ put_first (x ∷ xs) [] bs = put_none (put (x ∷ xs) 0 bs) 0
 put_first (x ∷ xs) (h ∷ hs) bs = ap (λ (l : List ℕ). h ∷ l) (put_first xs hs bs)
 
 pub status_is : (capacity : ℕ) (o page₀ page : List ℕ) (a count : ℕ) (head : List ℕ)
-    → count ≡ length (runs_from capacity o a most_runs) → page ≡ put page₀ 8 (runs_bytes (runs_from capacity o a most_runs))
+    → count ≡ length (runs_from capacity o a most_runs) → page ≡ put page₀ 8 (runs_bytes (runs_from capacity o a most_runs)) → length page₀ ≡ 520
     → head ≡ bytes 4 (4 + 16 * count) ++ zeros 4
-    → put page 0 (take 8 head) ≡ put page₀ 0 (status_data capacity o a)
+    → head ++ drop 8 page ≡ put page₀ 0 (status_data capacity o a)
 unfolding status_data head_bytes
-status_is capacity o page₀ page a count head n p e =
+status_is capacity o page₀ page a count head n p l e =
     let rs = runs_from capacity o a most_runs in
     let f : head ≡ head_bytes (length rs) = rw (← n) e in
     let w : length head ≡ 8 = ap length f ∙ length_head (length rs) in
-    rw (take_all 8 head (omega arith), p, f)
+    let m : length page ≡ 520 = ap length p ∙ length_put page₀ 8 (runs_bytes rs) ∙ l in
+    let z : 8 ≡ 0 + length head = omega arith in
+    ap (λ (i : ℕ). head ++ drop i page) z
+    ∙ sym (put_is page 0 head (omega arith))
+    ∙ rw (p, f)
     (ap (λ (i : ℕ). put (put page₀ i (runs_bytes rs)) 0 (head_bytes (length rs))) (sym (length_head (length rs)))
     ∙ put_first page₀ (head_bytes (length rs)) (runs_bytes rs)
     ∙ ap (put page₀ 0) (sym (page_is rs)))

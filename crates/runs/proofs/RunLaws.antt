@@ -9,8 +9,8 @@ use native.Mathlib.Omega.{arith}
 use native.Mathlib.Nat.{add-zero}
 use borrow.Author.Tests.{le-leb, lt-leb, eq-eqb, ne_eqb}
 use lib.Dec.{T, T_not, not_T, eqb, leb, ltb, leb→le, nleb→lt, ltb→lt, nltb→le}
-use lib.ListN.{length, get_or, drop, set, replicate, length-set, length-replicate}
-use lib.Seq.{drop-cons, drop-length, get_or-set_same, get_or-set_other}
+use lib.ListN.{length, get_or, drop, drop_of_length-le, set, replicate, length-set, length-replicate}
+use lib.Seq.{drop-cons, get_or-set_same, get_or-set_other}
 use Rattle.fields.proofs.Tests.{test, by_test, by_equal, T_true, T_false, true→T, false→T}
 use Rattle.pool.specs.Bounds.{most_blocks, most_slots}
 use Rattle.pool.specs.Pool.{place, has, mapped, unmapped}
@@ -132,54 +132,64 @@ module _ (o : List ℕ) (marks : List Bool) (a n k : ℕ) (each : (j : ℕ) → 
 pub true_more : (l : List Bool) (k : ℕ) → ((j : ℕ) → j < k → get_or l j false ≡ true) → get_or l k false ≡ true → (j : ℕ) → j < k + 1 → get_or l j false ≡ true
 true_more l k all d j h = by_equal j k (λ q. get_or l j false ≡ true) (λ e. rw e d) (λ n. all j (omega arith))
 
--- the marks of the slots from i on: mark k tells whether one of them has the owner number k above `first`
+-- the marks of the slots before i: a block is marked or has its slot from i on, exactly if it has one
 pub record Marked (o : List ℕ) (first : ℕ) (marks : List Bool) (i : ℕ) : Type 0 where
   pub size : length marks ≡ most_slots
-  pub each : (k : ℕ) → k < most_slots → get_or marks k false ≡ has (first + k) (drop i o)
+  pub each : (k : ℕ) → k < most_slots → (get_or marks k false || has (first + k) (drop i o)) ≡ has (first + k) o
 
-pub mark_start : (o : List ℕ) (first : ℕ) → Marked o first (replicate most_slots false) (length o)
-unfolding has
-mark_start o first = record { size = length-replicate most_slots false; each = λ k h. rw (drop-length o) (get_d_none most_slots k) }
+pub mark_start : (o : List ℕ) (first : ℕ) → Marked o first (replicate most_slots false) 0
+mark_start o first = record { size = length-replicate most_slots false; each = λ k h. rw (get_d_none most_slots k) refl }
   where
     get_d_none : (n k : ℕ) → get_or (replicate n false) k false ≡ false
     get_d_none zero k = refl
     get_d_none (suc n) zero = refl
     get_d_none (suc n) (suc k) = get_d_none n k
 
-module _ (o : List ℕ) (first : ℕ) (marks : List Bool) (i far : ℕ) (z : 0 < i) (b : i ≤ length o) (m : Marked o first marks i)
-    (near : first ≤ get_or o (i - 1) 0 → get_or o (i - 1) 0 ≡ first + far) (low : get_or o (i - 1) 0 < first → most_blocks < far) where
-  has_down : (x : ℕ) → has x (drop (i - 1) o) ≡ (eqb (get_or o (i - 1) 0) x || has x (drop i o))
+or_true : (a b : Bool) → (a || (true || b)) ≡ true
+or_true true b = refl
+or_true false b = refl
+
+or_none : (a : Bool) → (a || false) ≡ a
+or_none true = refl
+or_none false = refl
+
+module _ (o : List ℕ) (first : ℕ) (marks : List Bool) (i far : ℕ) (b : i < length o) (m : Marked o first marks i)
+    (near : first ≤ get_or o i 0 → get_or o i 0 ≡ first + far) (low : get_or o i 0 < first → most_blocks < far) where
+  has_next : (x : ℕ) → has x (drop i o) ≡ (eqb (get_or o i 0) x || has x (drop (i + 1) o))
   unfolding has
-  has_down x =
-      let q : suc (i - 1) ≡ i = omega arith in
-      let h : i - 1 < length o = omega arith in
-      ap (has x) (drop-cons o (i - 1) 0 h) ∙ ap (λ (j : ℕ). eqb (get_or o (i - 1) 0) x || has x (drop j o)) q
+  has_next x =
+      let q : suc i ≡ i + 1 = omega arith in
+      ap (has x) (drop-cons o i 0 b) ∙ ap (λ (j : ℕ). eqb (get_or o i 0) x || has x (drop j o)) q
 
-  pub mark_none : most_slots ≤ far → Marked o first marks (i - 1)
-  mark_none f = record {
-    size = m.size;
-    each = λ k h.
-        rw (has_down (first + k), ne_eqb (get_or o (i - 1) 0) (first + k) (λ e. let q = near (omega arith) in omega arith)) (m.each k h);
-  }
+  -- a block that the slot is not of
+  passed : (k : ℕ) → k < most_slots → (get_or o i 0 ≡ first + k → ⊥) → (get_or marks k false || has (first + k) (drop (i + 1) o)) ≡ has (first + k) o
+  passed k h d = rw (has_next (first + k), ne_eqb (get_or o i 0) (first + k) d) at (m.each k h)
 
-  pub mark_one : far < most_slots → Marked o first (set marks far true) (i - 1)
+  pub mark_none : most_slots ≤ far → Marked o first marks (i + 1)
+  mark_none f = record { size = m.size; each = λ k h. passed k h (λ e. let q = near (omega arith) in omega arith) }
+
+  pub mark_one : far < most_slots → Marked o first (set marks far true) (i + 1)
   mark_one f =
       let l = m.size in
-      let x : get_or o (i - 1) 0 ≡ first + far =
-      test (ltb (get_or o (i - 1) 0) first)
-      (λ t. let q = low (ltb→lt (get_or o (i - 1) 0) first t) in absurd (omega arith))
-      (λ t. near (nltb→le (get_or o (i - 1) 0) first t)) in
+      let x : get_or o i 0 ≡ first + far =
+      test (ltb (get_or o i 0) first)
+      (λ t. let q = low (ltb→lt (get_or o i 0) first t) in absurd (omega arith))
+      (λ t. near (nltb→le (get_or o i 0) first t)) in
       record {
         size = length-set marks far true ∙ m.size;
         each = λ k h.
-            by_equal k far (λ q. get_or (set marks far true) k false ≡ has (first + k) (drop (i - 1) o))
-            (λ e. rw (e, get_or-set_same marks far true false (omega arith), has_down (first + far), eq-eqb (get_or o (i - 1) 0) (first + far) x))
-            (λ d. rw (get_or-set_other marks far k true false d, has_down (first + k), ne_eqb (get_or o (i - 1) 0) (first + k) (λ e. d (omega arith))) (m.each k h));
+            by_equal k far (λ q. (get_or (set marks far true) k false || has (first + k) (drop (i + 1) o)) ≡ has (first + k) o)
+            (λ e. rw (e, get_or-set_same marks far true false (omega arith))
+            (sym (or_true (get_or marks far false) (has (first + far) (drop (i + 1) o)))
+            ∙ rw (has_next (first + far), eq-eqb (get_or o i 0) (first + far) x) at (m.each far f)))
+            (λ d. rw (get_or-set_other marks far k true false d) (passed k h (λ e. d (omega arith))));
       }
 
-pub mark_done : (o : List ℕ) (a : ℕ) (marks : List Bool) → Marked o (a + 1) marks 0 → (k : ℕ) → k < most_slots → get_or marks k false ≡ mapped o (a + k)
-unfolding mapped
-mark_done o a marks m k h = let s : a + 1 + k ≡ suc (a + k) = omega arith in m.each k h ∙ ap (λ (x : ℕ). has x o) s
+pub mark_done : (o : List ℕ) (a i : ℕ) (marks : List Bool) → length o ≤ i → Marked o (a + 1) marks i → (k : ℕ) → k < most_slots → get_or marks k false ≡ mapped o (a + k)
+unfolding mapped has
+mark_done o a i marks z m k h =
+    let s : a + 1 + k ≡ suc (a + k) = omega arith in
+    sym (or_none (get_or marks k false)) ∙ (rw (drop_of_length-le o z) at (m.each k h)) ∙ ap (λ (x : ℕ). has x o) s
 
 -- ---- an unmapped run by the least owner number from its first block's on
 

@@ -18,16 +18,15 @@ pub const RUN_BYTES: usize = 16;
 fn status_of(held: bool) -> u8
     ensures { result ≡ cond held 0 1 }
 {
-    if held { 0 } else { 1 }
+    u8::from(!held)
 }
 
 pub fn run_bytes(found: Run) -> [u8; RUN_BYTES]
     requires { found.count ≤ most_run }
     ensures { result ≡ run_bytes (run found.start.0 found.count found.held) }
 {
-    let lba = found.start;
-    let a = numbers::bytes8(lba.0);
-    let n = numbers::bytes4(found.count as u32);
+    let a = numbers::bytes::<8>(found.start.0);
+    let n = numbers::bytes::<4>(found.count);
     let status = status_of(found.held);
     [
         a[0], a[1], a[2], a[3], a[4], a[5], a[6], a[7], n[0], n[1], n[2], n[3], status, 0, 0, 0,
@@ -39,6 +38,6 @@ pub fn head_bytes(count: usize) -> [u8; HEAD_BYTES]
     requires { count ≤ most_runs }
     ensures { result ≡ bytes 4 (4 + 16 * count) ++ zeros 4 }
 {
-    let n = numbers::bytes4((4 + RUN_BYTES * count) as u32);
+    let n = numbers::bytes::<4>((4 + RUN_BYTES * count) as u64);
     [n[0], n[1], n[2], n[3], 0, 0, 0, 0]
 }

@@ -4,7 +4,7 @@ ghost use Rattle.pool.specs.Bounds.{most_blocks, most_slots};
 ghost use Rattle.pool.specs.Pool.{mapped};
 ghost use Rattle.runs.specs.Runs.{most_run, held_from, run, run_at};
 
-use crate::MOST_RUN;
+use crate::{MOST_RUN, Map};
 use map::slots;
 use pool::{Lba, MOST_SLOTS};
 
@@ -17,25 +17,15 @@ pub struct Run {
     pub next: bool,
 }
 
-// How far a run from `lba` on is looked at: to the capacity, and one block further than a descriptor tells, to see whether it goes on there.
-fn sight_from(capacity: u64, lba: Lba) -> u64
-    requires { lba.0 < capacity }
-    ensures { result ≡ min (capacity - lba.0) (most_run + 1) }
-{
-    let left = capacity - lba.0;
-    if left <= MOST_RUN { left } else { MOST_RUN + 1 }
-}
-
 // The lesser of `least` and of how far `owner` lies above `first`, from below as far as through the end of the numbers.
 fn nearer(owner: u64, first: u64, least: u64) -> u64
     ensures { (first ≤ owner → result ≡ min (owner - first) least) × (owner < first → result ≡ min (owner + 2 ^ 64 - first) least) }
 {
-    let far = slots::above(owner, first);
-    if far < least { far } else { least }
+    slots::above(owner, first).min(least)
 }
 
 // How many of `most` blocks from `lba` on are unmapped, up to the first that is mapped: that of the least owner number from `lba`'s on. Two slots
-// a turn: what a turn costs besides them is then paid half as often.
+// a turn, and so by their numbers: what a turn costs besides them is then paid half as often.
 fn unmapped_run(owners: &[u64], lba: Lba, most: u64) -> u64
     requires { lba.0 + most ≤ most_blocks }
     ensures { result ≡ held_from false owners.now lba.0 most }
@@ -56,24 +46,20 @@ fn unmapped_run(owners: &[u64], lba: Lba, most: u64) -> u64
     least
 }
 
-// Whether each block from `lba` on is mapped, as many as there can be slots. From the last slot to the first: so the marks made are those of
-// the slots from i on.
-fn marks_of(owners: &[u64], lba: Lba) -> [bool; MOST_SLOTS]
+// Whether each block from `lba` on is mapped, as many as there can be slots.
+fn mapped_near(owners: &[u64], lba: Lba) -> [bool; MOST_SLOTS]
     requires { lba.0 ≤ most_blocks }
     ensures { (k : ℕ) → k < most_slots → get_or result k false ≡ mapped owners.now (lba.0 + k) }
 {
     let first = lba.0 + 1;
-    let mut marks = [false; MOST_SLOTS];
-    let mut i = owners.len();
-    while i > 0 {
-        i -= 1;
-        let far = slots::above(owners[i], first);
+    let mut near = [false; MOST_SLOTS];
+    for owner in owners {
+        let far = slots::above(*owner, first);
         if far < MOST_SLOTS as u64 {
-            let k = far as usize;
-            marks[k] = true;
+            near[far as usize] = true;
         }
     }
-    marks
+    near
 }
 
 // How many of `most` blocks from `lba` on are mapped, up to the first that is not.
@@ -81,27 +67,13 @@ fn mapped_run(owners: &[u64], lba: Lba, most: usize) -> usize
     requires { (most ≤ most_slots) × (lba.0 ≤ most_blocks) }
     ensures { result ≡ held_from true owners.now lba.0 most }
 {
-    let marks = marks_of(owners, lba);
+    let near = mapped_near(owners, lba);
     for k in 0..most {
-        if !marks[k] {
+        if !near[k] {
             return k;
         }
     }
     most
-}
-
-// The same for either kind. No more blocks are mapped than there are slots: so many marks are enough.
-fn run_of(owners: &[u64], lba: Lba, most: u64, held: bool) -> u64
-    requires { (lba.0 + most ≤ most_blocks) × (length owners.now ≤ most_slots) }
-    ensures { result ≡ held_from held owners.now lba.0 most }
-{
-    if !held {
-        return unmapped_run(owners, lba, most);
-    }
-    if most < MOST_SLOTS as u64 {
-        return mapped_run(owners, lba, most as usize) as u64;
-    }
-    mapped_run(owners, lba, MOST_SLOTS) as u64
 }
 
 // The run of so many blocks that are seen to be of one kind: a descriptor tells no more than the most, and then they go on behind it. The others
@@ -112,32 +84,49 @@ fn told(start: Lba, seen: u64, held: bool) -> Run
         × (result.held ≡ held)
         × (result.next ≡ cond (ltb most_run seen) held (not held)) }
 {
-    if MOST_RUN < seen {
-        return Run {
-            start,
-            count: MOST_RUN,
-            held,
-            next: held,
-        };
-    }
     Run {
         start,
-        count: seen,
+        count: seen.min(MOST_RUN),
         held,
-        next: !held,
+        next: held == (MOST_RUN < seen),
     }
 }
 
-// The run from `lba` on. The kind `likely` is tried first: the other one only if no block is of that kind.
-pub fn next_run(capacity: u64, owners: &[u64], lba: Lba, likely: bool) -> Run
-    requires { (lba.0 < capacity) × (capacity ≤ most_blocks) × (length owners.now ≤ most_slots) }
-    ensures { run result.start.0 result.count result.held ≡ run_at capacity owners.now lba.0 }
-{
-    let sight = sight_from(capacity, lba);
-    let seen = run_of(owners, lba, sight, likely);
-    if seen > 0 {
-        return told(lba, seen, likely);
+impl Map<'_> {
+    // How far a run from `lba` on is looked at: to the capacity, and one block further than a descriptor tells, to see whether it goes on there.
+    fn sight_from(self, lba: Lba) -> u64
+        requires { lba.0 < self.capacity }
+        ensures { result ≡ min (self.entry.capacity - lba.0) (most_run + 1) }
+    {
+        (self.capacity - lba.0).min(MOST_RUN + 1)
     }
-    let held = !likely;
-    told(lba, run_of(owners, lba, sight, held), held)
+
+    // How many of `most` blocks from `lba` on are mapped, or else unmapped, up to the first that is not. No more blocks are mapped than there
+    // are slots: so many marks are enough. Two calls and no `min`: where all marks are looked at their number is a constant.
+    #[tactic(auto, using(crate::proofs::RunLaws::mapped_cut))]
+    fn run_of(self, lba: Lba, most: u64, held: bool) -> u64
+        requires { lba.0 + most ≤ most_blocks }
+        ensures { result ≡ held_from held self.entry.owners.now lba.0 most }
+    {
+        if !held {
+            return unmapped_run(self.owners, lba, most);
+        }
+        if most < MOST_SLOTS as u64 {
+            return mapped_run(self.owners, lba, most as usize) as u64;
+        }
+        mapped_run(self.owners, lba, MOST_SLOTS) as u64
+    }
+
+    // The run from `lba` on. The kind `likely` is tried first: the other one only if no block is of that kind.
+    pub(crate) fn next_run(self, lba: Lba, likely: bool) -> Run
+        requires { lba.0 < self.capacity }
+        ensures { run result.start.0 result.count result.held ≡ run_at self.entry.capacity self.entry.owners.now lba.0 }
+    {
+        let sight = self.sight_from(lba);
+        let seen = self.run_of(lba, sight, likely);
+        if seen > 0 {
+            return told(lba, seen, likely);
+        }
+        told(lba, self.run_of(lba, sight, !likely), !likely)
+    }
 }

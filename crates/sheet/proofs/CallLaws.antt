@@ -1,15 +1,17 @@
 -- Laws of the calls of a sheet: a fresh store, a call as the lent parts make it, and one turn of the loop over the calls.
 -- Assumes nothing.
-use mathlib.Core.Path.{◌≡◌, refl, sym, ap, ◌∙◌}
+use mathlib.Core.Path.{◌≡◌, sym, ap, ◌∙◌}
 use mathlib.Core.Bool.{true, false}
-use mathlib.Core.List.{List, [], ◌++◌}
+use mathlib.Core.List.{List, [], ◌++◌, append_assoc, append-nil}
 use Prim.Native.Nat.{ℕ, suc, ◌+◌, ◌-◌, ◌*◌, ◌≤◌, ◌<◌}
-use native.Mathlib.Nat.{add-sub_cancel_left, add-zero, add_assoc, sub-zero}
+use native.Mathlib.Nat.{add-sub_cancel_left, sub-zero}
 use native.Mathlib.Numerals.{add-one}
 use native.Mathlib.Omega.{arith}
-use lib.ListN.{length, take, drop, replicate, length-append, length-replicate}
-use Rattle.fields.specs.Bytes.{part, put, zeros}
-use Rattle.fields.proofs.BytesLaws.{zeros_replicate, put_next, put_none}
+use lib.ListN.{length, take, drop, replicate, length-replicate}
+use Rattle.std.specs.Prelude.{Result as Either, Ok, IsOk}
+use Rattle.fields.specs.Bytes.{part, zeros}
+use Rattle.fields.proofs.BytesLaws.{zeros_replicate}
+use Rattle.answers.specs.declared.Answer.{Answer}
 use Rattle.answers.specs.declared.Answer.TheVariants.{Good}
 use Rattle.answers.specs.Order.{first_of, if_good_by, refuses}
 use Rattle.answers.specs.Sense.{fixed, format_ok}
@@ -18,12 +20,12 @@ use Rattle.store.specs.declared.Unit.{Unit}
 use Rattle.store.specs.Store.{Store, Call, Result}
 use Rattle.store.specs.Step.{step}
 use Rattle.pool.specs.Bounds.{mark_words}
-use Rattle.store.specs.Fresh.{fresh, fresh_answer, fresh_unit, fresh_store}
-use Rattle.reply.specs.Contract.{store_of, call_of}
+use Rattle.store.specs.Fresh.{FreshResult, fresh, fresh_answer, fresh_unit, fresh_store}
+use Rattle.reply.specs.Contract.{store_of, call_of, made}
+use Rattle.commands.proofs.FreshLaws.{good_made}
 use Rattle.contents.specs.Contents.{calls, nexus_of, cdb_length, out_length, body_end, bodies_begin, good_sheet}
 use Rattle.sheet.specs.Calls.{data_in_bytes, call_at}
 use Rattle.sheet.specs.Printed.{capacity, slots, heading, bad_sheet, seen_line, lines_from, bench_store, lines_of, printed}
-use Rattle.text.specs.Puts.{Puts}
 use Rattle.store.proofs.Returned.{returned_fits}
 
 -- ---- a fresh store
@@ -32,6 +34,18 @@ pub fresh_is : (owners marks : List ℕ) → length owners ≡ slots → length 
     → fresh capacity fixed owners marks ≡ record { answer = Good; unit = fresh_unit capacity; owners = zeros slots; marks = zeros mark_words }
 unfolding fresh fresh_answer first_of if_good_by capacity_ok slots_ok format_ok refuses
 fresh_is owners marks e m = rw (e, m)
+
+module _ (owners marks owners' marks' : List ℕ) (r : Either Unit Answer) where
+  -- the bench's bounds are good, so that there is a unit
+  pub fresh_made : length owners ≡ slots → length marks ≡ mark_words → made r owners' marks' ≡ fresh capacity fixed owners marks → IsOk r
+  fresh_made e m h = good_made capacity fixed owners marks r owners' marks' h (ap (λ (x : FreshResult). x.answer) (fresh_is owners marks e m))
+
+  pub fresh_given : (u : Unit) → length owners ≡ slots → length marks ≡ mark_words → made r owners' marks' ≡ fresh capacity fixed owners marks
+      → r ≡ Ok u → (u ≡ fresh_unit capacity) × (owners' ≡ zeros slots) × (marks' ≡ zeros mark_words)
+  fresh_given u e m h k =
+      let f : made (Ok u) owners' marks' ≡ record { answer = Good; unit = fresh_unit capacity; owners = zeros slots; marks = zeros mark_words } =
+      ap (λ (x : Either Unit Answer). made x owners' marks') (sym k) ∙ h ∙ fresh_is owners marks e m
+      in (ap (λ (x : FreshResult). x.unit) f, ap (λ (x : FreshResult). x.owners) f, ap (λ (x : FreshResult). x.marks) f)
 
 pub fresh_store_law : (unit : Unit) (owners marks medium : List ℕ) → unit ≡ fresh_unit capacity → owners ≡ zeros slots → marks ≡ zeros mark_words
     → medium ≡ replicate (512 * slots) 0 → store_of fixed unit owners marks medium ≡ bench_store
@@ -60,43 +74,31 @@ returned_most s nexus cdb data_out sense x e =
 
 -- ---- the lines that are still to come: what is put and what is to come make the whole
 
-pub record ToCome (whole before : List ℕ) (start : ℕ) (rest out : List ℕ) (end : ℕ) : Type 0 where
-  pub bytes : put out end rest ≡ put before start whole
-  pub behind : end + length rest ≡ start + length whole
-
-pub come_begin : (sheet out : List ℕ) (start n : ℕ) (s : Store) → n ≡ calls sheet → s ≡ bench_store
-    → ToCome (lines_of sheet) out start (lines_from s sheet 0 (n - 0) (1 + 4 * n)) out start
-unfolding lines_of bodies_begin
-come_begin sheet out start n s e q = rw (sub-zero n, e, q) (record { bytes = refl; behind = refl })
+pub come_begin : (sheet page : List ℕ) (n at : ℕ) (s : Store) → n ≡ calls sheet → at ≡ bodies_begin sheet → s ≡ bench_store
+    → page ++ lines_from s sheet 0 (n - 0) at ≡ page ++ lines_of sheet
+unfolding lines_of
+come_begin sheet page n at s e b q = rw (sub-zero n, e, b, q)
 
 lines_more : (s : Store) (sheet : List ℕ) (i m n at : ℕ) → n ≡ suc m
     → lines_from s sheet i n at ≡ seen_line (i + 1) (step s (call_at sheet i at)).seen ++ lines_from (step s (call_at sheet i at)).store sheet (i + 1) m (body_end sheet i at)
 unfolding lines_from
 lines_more s sheet i m n at e = rw (e, add-one i)
 
-come_more : (whole before line rest out after : List ℕ) (start end next : ℕ) → Puts line out end after next
-    → ToCome whole before start (line ++ rest) out end → ToCome whole before start rest after next
-come_more whole before line rest out after start end next p t = record {
-  bytes = rw (p.bytes, p.behind) (put_next out end line rest ∙ t.bytes);
-  behind = rw (p.behind, add_assoc end (length line) (length rest), ← length-append line rest) t.behind;
-}
-
-pub come_turn : (whole before out after sheet : List ℕ) (start end next i n at later : ℕ) (s t : Store)
+pub come_turn : (whole page after sheet : List ℕ) (i n at later : ℕ) (s t : Store)
     → i < n → later ≡ body_end sheet i at → t ≡ (step s (call_at sheet i at)).store
-    → Puts (seen_line (i + 1) (step s (call_at sheet i at)).seen) out end after next
-    → ToCome whole before start (lines_from s sheet i (n - i) at) out end
-    → ToCome whole before start (lines_from t sheet (i + 1) (n - (i + 1)) later) after next
-come_turn whole before out after sheet start end next i n at later s t h e q p c =
-    rw (e, q)
-    (come_more whole before _ _ out after start end next p (rw (lines_more s sheet i (n - (i + 1)) (n - i) at (omega arith)) at c))
+    → after ≡ page ++ seen_line (i + 1) (step s (call_at sheet i at)).seen
+    → page ++ lines_from s sheet i (n - i) at ≡ whole
+    → after ++ lines_from t sheet (i + 1) (n - (i + 1)) later ≡ whole
+come_turn whole page after sheet i n at later s t h e q p c =
+    rw (e, q, p)
+    (append_assoc page _ _ ∙ ap (λ (l : List ℕ). page ++ l) (sym (lines_more s sheet i (n - (i + 1)) (n - i) at (omega arith))) ∙ c)
 
-pub come_done : (whole before out sheet : List ℕ) (start end i n at : ℕ) (s : Store) → n ≤ i
-    → ToCome whole before start (lines_from s sheet i (n - i) at) out end → Puts whole before start out end
+pub come_done : (whole page sheet : List ℕ) (i n at : ℕ) (s : Store) → n ≤ i → page ++ lines_from s sheet i (n - i) at ≡ whole → page ≡ whole
 unfolding lines_from
-come_done whole before out sheet start end i n at s h c =
+come_done whole page sheet i n at s h c =
     let e : n - i ≡ 0 = omega arith in
-    let none : ToCome whole before start [] out end = rw e at c in
-    record { bytes = sym (put_none out end) ∙ none.bytes; behind = sym (add-zero end) ∙ none.behind }
+    let none : page ++ [] ≡ whole = rw e at c in
+    sym (append-nil page) ∙ none
 
 -- ---- what is printed
 

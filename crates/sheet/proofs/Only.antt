@@ -1,16 +1,15 @@
--- The promise of `run` admits no second outcome: it determines the length and every byte of the buffer.
+-- The promise of `run` admits no second outcome: it determines every byte of the page.
 -- Assumes nothing.
 use mathlib.Core.Path.{◌≡◌, sym, ◌∙◌}
 use mathlib.Core.List.{List}
 use Prim.Native.Nat.{ℕ, ◌≤◌}
 use lib.ListN.{length}
-use Rattle.fields.specs.Bytes.{put}
 use Rattle.sheet.specs.Printed.{printed}
 use Rattle.sheet.specs.Leaves.{out_bytes}
 
--- what `run` promises of a sheet, of the buffer before and after, and of what it returns
-abbrev Ran : List ℕ → List ℕ → List ℕ → ℕ → Type 0
-Ran sheet before after r = (after ≡ put before 0 (printed sheet)) × (r ≡ length (printed sheet)) × (r ≤ out_bytes)
+-- what `run` promises of a sheet and of the page that it returns
+abbrev Ran : List ℕ → List ℕ → Type 0
+Ran sheet page = (page ≡ printed sheet) × (length page ≤ out_bytes)
 
-pub run_only : (sheet before after after' : List ℕ) (r q : ℕ) → Ran sheet before after r → Ran sheet before after' q → (r ≡ q) × (after ≡ after')
-run_only sheet before after after' r q e h = (e.1 ∙ sym h.1, e.0 ∙ sym h.0)
+pub run_only : (sheet p q : List ℕ) → Ran sheet p → Ran sheet q → p ≡ q
+run_only sheet p q e h = e.0 ∙ sym h.0

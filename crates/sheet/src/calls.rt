@@ -8,10 +8,12 @@ ghost use Rattle.reply.specs.Contract.{store_of};
 ghost use Rattle.contents.specs.Contents.{most_calls, most_bytes, body_end, good_sheet};
 ghost use Rattle.lines.specs.Most.{line_most};
 ghost use Rattle.sheet.specs.Printed.{capacity, slots};
-ghost use Rattle.sheet.specs.Leaves.{Serves, Runs};
+ghost use Rattle.sheet.specs.Leaves.{out_bytes, Serves, Runs};
 
+use crate::OUT;
 use answers::sense::{FIXED, FIXED_BYTES};
-use pool::MARK_WORDS;
+use fields::page::Page;
+use pool::{BLOCK_BYTES, MARK_WORDS};
 use store::Unit;
 
 // 01: "fresh store of capacity 8 and 2 slots, 4,096 bytes of data-in".
@@ -21,40 +23,32 @@ const SLOTS: usize = 2;
 
 const DATA_IN: usize = 4096;
 
-// What a call leaves beside the lent buffers: the unit, and the place behind the line.
-#[derive(Clone, Copy)]
-struct Served {
-    unit: Unit,
-    end: usize,
-}
-
-// Call i, whose body begins at a byte of the sheet, and its line.
+// Call i, whose body begins at a byte of the sheet, and its line. The store's parts are lent one by one, as `commands::execute` takes them.
 fn serve(
-    unit: Unit,
+    unit: &mut Unit,
     owners: &mut [u64],
     marks: &mut [u64],
     medium: &mut [u8],
     sheet: &[u8],
-    i: usize,
+    i: u8,
     at: usize,
-    out: &mut [u8],
-    end: usize,
-) -> Served
+    page: &mut Page<OUT>,
+)
     requires { (i < most_calls) × (body_end sheet.now i at ≤ length sheet.now) × (length sheet.now ≤ most_bytes)
-        × (end + line_most ≤ length out.old) }
+        × (length page.old + line_most ≤ out_bytes) }
     ensures { Serves sheet.now i at
-        (store_of fixed unit owners.old marks.old medium.old)
-        (store_of fixed result.unit owners.new marks.new medium.new)
-        out.old end out.new result.end }
+        (store_of fixed unit.old owners.old marks.old medium.old)
+        (store_of fixed unit.new owners.new marks.new medium.new)
+        page.old page.new }
 {
     let mut data_in = [0u8; DATA_IN];
     let mut sense = [0u8; FIXED_BYTES];
     let nexus = contents::nexus_of(sheet, i);
     let middle = at + contents::cdb_length(sheet, i);
     let last = middle + contents::out_length(sheet, i);
-    let o = commands::execute(
+    let outcome = commands::execute(
         FIXED,
-        unit,
+        *unit,
         owners,
         marks,
         medium,
@@ -64,11 +58,14 @@ fn serve(
         &mut data_in,
         &mut sense,
     );
-    let answer = o.answer;
-    let returned = o.returned;
-    let unit = o.unit;
-    let end = lines::put_line(out, end, i + 1, answer, returned, &data_in);
-    Served { unit, end }
+    *unit = outcome.unit;
+    lines::put_line(
+        page,
+        i as usize + 1,
+        outcome.answer,
+        outcome.returned,
+        &data_in,
+    );
 }
 
 // The unit of a fresh store.
@@ -76,41 +73,31 @@ fn fresh_unit(owners: &mut [u64], marks: &mut [u64]) -> Unit
     requires { (length owners.old ≡ slots) × (length marks.old ≡ mark_words) }
     ensures { (result ≡ fresh_unit capacity) × (owners.new ≡ zeros slots) × (marks.new ≡ zeros mark_words) }
 {
-    let made = commands::fresh(CAPACITY, FIXED, owners, marks);
-    let unit = made.unit;
-    unit
+    commands::fresh(CAPACITY, FIXED, owners, marks).unwrap()
 }
 
-// All calls on a fresh store; their lines are put from a place on.
-pub fn run_calls(sheet: &[u8], out: &mut [u8], start: usize) -> usize
-    requires { (good_sheet sheet.now ≡ true) × (start + most_calls * line_most ≤ length out.old) }
-    ensures { Runs sheet.now out.old start out.new result }
+// All calls on a fresh store; their lines are put at the page's end.
+pub fn run_calls(sheet: &[u8], page: &mut Page<OUT>)
+    requires { (good_sheet sheet.now ≡ true) × (length page.old + most_calls * line_most ≤ out_bytes) }
+    ensures { Runs sheet.now page.old page.new }
 {
     let mut owners = [0u64; SLOTS];
     let mut marks = [0u64; MARK_WORDS];
-    let mut medium = [0u8; 512 * SLOTS];
+    let mut medium = [0u8; BLOCK_BYTES * SLOTS];
     let mut unit = fresh_unit(&mut owners, &mut marks);
-    let mut end = start;
     let n = contents::calls_in(sheet);
-    let mut at = 1 + 4 * n;
-    let mut i: usize = 0;
-    while i < n {
-        let served = serve(
-            unit,
+    let mut at = contents::bodies_begin(sheet);
+    for i in 0..n {
+        serve(
+            &mut unit,
             &mut owners,
             &mut marks,
             &mut medium,
             sheet,
             i,
             at,
-            out,
-            end,
+            page,
         );
-        let next = served.unit;
-        unit = next;
-        end = served.end;
         at = contents::body_end(sheet, i, at);
-        i = i + 1;
     }
-    end
 }

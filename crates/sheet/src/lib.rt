@@ -4,22 +4,25 @@
 mod calls;
 
 ghost use Rattle.std.specs.Prelude.{◌≡◌, ◌≤◌, length};
-ghost use Rattle.fields.specs.Bytes.{put};
 ghost use Rattle.sheet.specs.Printed.{printed};
 ghost use Rattle.sheet.specs.Leaves.{out_bytes};
+
+use fields::page::Page;
 
 // More than a heading of 37 bytes and 32 lines of 90.
 pub const OUT: usize = 4096;
 
-// What the sheet prints stands in the first bytes of the buffer; the answer is how many.
-pub fn run(sheet: &[u8], out: &mut [u8; OUT]) -> usize
-    ensures { (out.new ≡ put out.old 0 (printed sheet.now))
-        × (result ≡ length (printed sheet.now)) × (result ≤ out_bytes) }
+// What the sheet prints.
+#[tactic(auto, using(crate::proofs::CallLaws::printed_good, crate::proofs::CallLaws::printed_bad), unfolding(crate::specs::Printed::heading, crate::specs::Printed::bad_sheet))]
+pub fn run(sheet: &[u8]) -> Page<OUT>
+    ensures { (result ≡ printed sheet.now) × (length result ≤ out_bytes) }
 {
+    let mut page = Page::new();
     if contents::is_good(sheet) {
-        let start = text::put_text(out, 0, b"call,answer,status,sense,length,data\n");
-        calls::run_calls(sheet, out, start)
+        page.append(b"call,answer,status,sense,length,data\n");
+        calls::run_calls(sheet, &mut page);
     } else {
-        text::put_text(out, 0, b"bad sheet\n")
+        page.append(b"bad sheet\n");
     }
+    page
 }

@@ -7,6 +7,7 @@ use Prim.Native.Nat.{ℕ, ◌<◌}
 use borrow.Author.Tests.{ne_eqb}
 use lib.Dec.{T, T_not, eqb, ltb, ltb→lt}
 use lib.ListN.{length}
+use Rattle.std.specs.Prelude.{Some, None}
 use Rattle.fields.proofs.Tests.{and_map, test, T_false, agree}
 use Rattle.rights.specs.declared.Rights.{Rights}
 use Rattle.rights.specs.declared.Action.{Action}
@@ -19,9 +20,7 @@ use Rattle.forms.specs.declared.Move.{Move}
 use Rattle.forms.specs.declared.Move.TheVariants.{Read, Write, WriteSame, Unmap, Status}
 use Rattle.forms.specs.declared.Command.{Command}
 use Rattle.forms.specs.declared.Command.TheVariants.{Tells, Moves, Alters}
-use Rattle.store.specs.declared.Column.{Column}
-use Rattle.store.specs.declared.Column.TheVariants.{Free, At}
-use Rattle.store.specs.Conflict.{column_under, column_of, row, says, conflict, shut_out, passes, stops, ruled}
+use Rattle.store.specs.Conflict.{Column, column_under, column_of, row, says, conflict, shut_out, passes, stops, ruled}
 
 -- what holds of each row holds of every command
 pub by_row : (P : Command → Type 0) → P (Moves Status) → P (Tells Inquiry) → P (Tells VitalData) → P (Tells Keys) → P (Tells Reservation)
@@ -47,7 +46,7 @@ unfoldable pub holds_by : ℕ → Bool → Bool → Bool
 holds_by kind named known = (one_holds kind && named) || (all_hold kind && known)
 
 unfoldable table_by : Command → ℕ → Bool → Bool → Bool
-table_by k kind named known = says (cond (holds_by kind named known) Free (column_under kind known)) (row k)
+table_by k kind named known = says (cond (holds_by kind named known) None (column_under kind known)) (row k)
 
 unfoldable pub rule_by : Command → ℕ → Bool → Bool → Bool
 rule_by k kind named known = stops kind k && not (holds_by kind named known || (is_one_of kind (5 ∷ 6 ∷ []) && known))
@@ -69,7 +68,7 @@ module _ (kind : ℕ) (none : T (not (is_type kind))) where
   other : (k : ℕ) → T (is_type k) → eqb kind k ≡ false
   other k t = ne_eqb kind k (λ e. T_not (is_type kind) none (subst (λ (x : ℕ). T (is_type x)) (sym e) t))
 
-  no_column : (known : Bool) → column_under kind known ≡ Free
+  no_column : (known : Bool) → column_under kind known ≡ None
   unfolding column_under is_type is_one_of
   no_column known = simp (other 1 tt, other 3 tt, other 5 tt, other 6 tt, other 7 tt, other 8 tt)
 
@@ -87,7 +86,7 @@ module _ (kind : ℕ) (none : T (not (is_type kind))) where
   unfolding table_by rule_by says
   untyped k named known = rw (no_column known, none_stopped k) (go (holds_by kind named known))
     where
-      go : (b : Bool) → says (cond b Free Free) (row k) ≡ false
+      go : (b : Bool) → says (cond b None None) (row k) ≡ false
       go true = refl
       go false = refl
 
@@ -146,8 +145,8 @@ shut_moves r n m t =
 -- ---- the columns are five, and so are the cells of each row
 
 unfoldable inside : Column → Bool
-inside Free = true
-inside (At column) = ltb column 5
+inside None = true
+inside (Some column) = ltb column 5
 
 either : (b : Bool) (x y : Column) → T (inside x) → T (inside y) → T (inside (cond b x y))
 either true x y s t = s
@@ -160,7 +159,7 @@ column_inside r n = either (holds r n) _ _ tt
     (either (is_one_of r.kind (5 ∷ 7 ∷ [])) _ _ (either (registered n r.places) _ _ tt tt)
     (either (is_one_of r.kind (6 ∷ 8 ∷ [])) _ _ (either (registered n r.places) _ _ tt tt) tt))))
 
-pub column_listed : (r : Rights) (n column : ℕ) → column_of r n ≡ At column → column < 5
+pub column_listed : (r : Rights) (n column : ℕ) → column_of r n ≡ Some column → column < 5
 unfolding inside
 column_listed r n column e = ltb→lt column 5 (subst (λ (x : Column). T (inside x)) e (column_inside r n))
 

@@ -15,9 +15,8 @@ use Rattle.answers.proofs.OrderLaws.{row_fails, row_pass, row_end, row_stop, fir
 use Rattle.answers.specs.Sense.{sense_bytes}
 use Rattle.rights.specs.declared.Rights.{Rights}
 use Rattle.rights.specs.Attentions.{refusal_of}
-use Rattle.forms.specs.Forms.{entry_of, Asked, nothing, asks, asked_of}
+use Rattle.forms.specs.Forms.{Entry, entry_of, Asked, nothing, asks, asked_of}
 use Rattle.forms.specs.Tests.{code_rows, length_rows, field_rows}
-use Rattle.forms.specs.declared.Entry.{Entry}
 use Rattle.forms.specs.declared.Request.{Request}
 use Rattle.forms.specs.declared.Command.{Command}
 use Rattle.forms.specs.declared.Command.TheVariants.{Tells, Moves, Alters}

@@ -4,6 +4,7 @@ use mathlib.Core.Bool.{Bool, true, false, not, ◌&&◌}
 use mathlib.Core.List.{List, [], ◌∷◌, ◌++◌}
 use Prim.Native.Nat.{ℕ, ◌+◌, ◌*◌, ◌-◌}
 use lib.Dec.{T, eqb, ltb, leb}
+use Rattle.std.specs.Prelude.{Some, None}
 use Rattle.fields.specs.Bits.{Bits, within, first_byte, top_bit, bit_count}
 use Rattle.fields.proofs.Tests.{both}
 use Rattle.answers.specs.declared.Refusal.{Refusal}
@@ -25,10 +26,8 @@ use Rattle.forms.specs.declared.Move.{Move}
 use Rattle.forms.specs.declared.Move.TheVariants.{Read, Write, WriteSame, Unmap, Status}
 use Rattle.forms.specs.declared.Command.{Command}
 use Rattle.forms.specs.declared.Command.TheVariants.{Tells, Moves, Alters}
-use Rattle.forms.specs.declared.Entry.{Entry}
-use Rattle.forms.specs.declared.Entry.TheVariants.{Listed, Unlisted}
 use Rattle.forms.specs.declared.Request.{Request}
-use Rattle.forms.specs.Forms.{Asked, nothing, asks}
+use Rattle.forms.specs.Forms.{Entry, Asked, nothing, asks}
 use Rattle.forms.specs.Tests.{Check, code_rows, length_rows, check_rows, checks_of, field_rows}
 use Rattle.store.specs.declared.Unit.{Unit}
 use Rattle.store.specs.Store.{Store, Call, waiting}
@@ -84,8 +83,8 @@ module _ (Q : Answer → Type 0) where
 
   pub length_each : (e : Entry) (cdb : List ℕ) → Q Unusable → Each Q (length_rows e cdb)
   unfolding length_rows Each
-  length_each (Listed code) cdb u = (u, tt)
-  length_each Unlisted cdb u = tt
+  length_each (Some code) cdb u = (u, tt)
+  length_each None cdb u = tt
 
   pub attention_each : (u : Unit) (n : ℕ) (cdb : List ℕ) → ((x : ℕ) → Q (Refused (refusal_of x))) → Each Q (attention_rows u n cdb)
   unfolding attention_rows Each

@@ -1,6 +1,6 @@
 -- The conflict rule as a table: a row for each command, a column for each reservation and sender. The rule in its own words stands below it.
 -- Assumes nothing.
-use Rattle.std.specs.Prelude.{Bool, true, false, not, ◌&&◌, ◌||◌, cond, List, [], ◌∷◌, ℕ, eqb, get_or}
+use Rattle.std.specs.Prelude.{Bool, true, false, not, ◌&&◌, ◌||◌, cond, List, [], ◌∷◌, ℕ, eqb, get_or, Option, Some, None}
 use Rattle.rights.specs.declared.Rights.{Rights}
 use Rattle.rights.specs.Places.{registered}
 use Rattle.rights.specs.Rights.{is_one_of, is_type, holds}
@@ -8,28 +8,30 @@ use Rattle.forms.specs.declared.Tell.TheVariants.{Ready, Inquiry, VitalData, Cap
 use Rattle.forms.specs.declared.Move.TheVariants.{Read, Write, WriteSame, Unmap, Status}
 use Rattle.forms.specs.declared.Command.{Command}
 use Rattle.forms.specs.declared.Command.TheVariants.{Tells, Moves, Alters}
-use Rattle.store.specs.declared.Column.{Column}
-use Rattle.store.specs.declared.Column.TheVariants.{Free, At}
 
 -- ---- the columns, from the left
 
+-- where a call falls in the table, by the reservation and its sender: in a column, counted from the left, or in none
+abbrev pub Column : Type 0
+Column = Option ℕ
+
 -- Q-5: "columns per reservation and sender", in the words of the source's table: "From any I_T nexus": "Write Exclusive", "Exclusive Access"
 abbrev pub any_write_exclusive : Column
-any_write_exclusive = At 0
+any_write_exclusive = Some 0
 
 abbrev pub any_exclusive_access : Column
-any_exclusive_access = At 1
+any_exclusive_access = Some 1
 
 -- "From registered I_T nexus (RR all types)"
 abbrev pub registered_nexus : Column
-registered_nexus = At 2
+registered_nexus = Some 2
 
 -- "From I_T nexus not registered": "Write Exclusive - RR", "Exclusive Access - RR"
 abbrev pub other_write_exclusive : Column
-other_write_exclusive = At 3
+other_write_exclusive = Some 3
 
 abbrev pub other_exclusive_access : Column
-other_exclusive_access = At 4
+other_exclusive_access = Some 4
 
 -- the column by the reservation's type and whether the sender is registered; where there is no reservation there is no column
 unfoldable pub column_under : ℕ → Bool → Column
@@ -37,11 +39,11 @@ column_under kind known =
     cond (eqb kind 1) any_write_exclusive
     (cond (eqb kind 3) any_exclusive_access
     (cond (is_one_of kind (5 ∷ 7 ∷ [])) (cond known registered_nexus other_write_exclusive)
-    (cond (is_one_of kind (6 ∷ 8 ∷ [])) (cond known registered_nexus other_exclusive_access) Free)))
+    (cond (is_one_of kind (6 ∷ 8 ∷ [])) (cond known registered_nexus other_exclusive_access) None)))
 
 -- "A holder is never blocked": it has no column
 unfoldable pub column_of : Rights → ℕ → Column
-column_of r n = cond (holds r n) Free (column_under r.kind (registered n r.places))
+column_of r n = cond (holds r n) None (column_under r.kind (registered n r.places))
 
 -- ---- the rows
 
@@ -73,8 +75,8 @@ row (Moves WriteSame) = cells Conflict Conflict Allowed Conflict Conflict  -- WR
 
 -- what a row says in a column; without one, the command passes
 unfoldable pub says : Column → List Bool → Bool
-says Free line = Allowed
-says (At column) line = get_or line column Allowed
+says None line = Allowed
+says (Some column) line = get_or line column Allowed
 
 unfoldable pub conflict : Rights → ℕ → Command → Bool
 conflict r n k = says (column_of r n) (row k)

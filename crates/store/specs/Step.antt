@@ -12,9 +12,8 @@ use Rattle.rights.specs.Actions.{acted}
 use Rattle.rights.specs.Attentions.{no_attention, refusal_of}
 use Rattle.forms.specs.declared.Command.{Command}
 use Rattle.forms.specs.declared.Command.TheVariants.{Tells, Moves, Alters}
-use Rattle.forms.specs.declared.Entry.{Entry}
 use Rattle.forms.specs.declared.Request.{Request}
-use Rattle.forms.specs.Forms.{entry_of, Asked, nothing, asks, asked_in}
+use Rattle.forms.specs.Forms.{Entry, entry_of, Asked, nothing, asks, asked_in}
 use Rattle.forms.specs.Tests.{code_rows, length_rows, field_rows}
 use Rattle.store.specs.declared.Unit.{Unit}
 use Rattle.store.specs.Store.{Store, Call, Result, with_unit, with_pool, usable, waiting, enacted, refused_unit, leaves, seen_of}

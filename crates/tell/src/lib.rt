@@ -1,77 +1,53 @@
-// Commands that tell what everybody may know. Each builds all that is there to be told; `reply::cut` cuts and lends it.
+// Commands that tell what everybody may know. Each builds all that is there to be told; `reply::cut` cuts and writes it.
 #![tactic(auto)]
 
 ghost use Rattle.std.specs.Prelude.{◌≡◌, ◌≤◌};
-ghost use Rattle.reply.specs.Reply.{replied};
+ghost use Rattle.reply.specs.Reply.{replied, Refusing};
 ghost use Rattle.tell.specs.Telling.{tells, tells_page};
 
 use answers::Answer;
 use forms::{Request, Tell};
-use reply::{Reply, cut};
+use reply::cut;
 use store::Unit;
 
 mod pages;
 
-// A page of vital product data. The decoder lets no other code pass; of one there would be nothing to tell.
-fn vital(page: u8, allocation: u64, data_in: &mut [u8]) -> Reply
-    ensures { replied result data_in.new ≡ tells_page page allocation data_in.old }
+// A page of vital product data. The decoder lets no other code pass; of one there is nothing to tell.
+#[tactic(auto, using(crate::proofs::TellLaws::page_00, crate::proofs::TellLaws::page_b0, crate::proofs::TellLaws::page_b2, crate::proofs::TellLaws::page_none, crate::proofs::TellLaws::take_none), unfolding(crate::specs::Telling::tells_page))]
+fn vital(page: u8, allocation: u64, data_in: &mut [u8]) -> Result<usize, Answer>
+    ensures leaves { replied result data_in.new ≡ tells_page page allocation data_in.old }
+    ensures refusing { Refusing result }
 {
     match page {
-        0x00 => {
-            let bytes = pages::supported();
-            cut::give(allocation, &bytes, data_in)
-        }
-        0xB0 => {
-            let bytes = pages::block_limits();
-            cut::give(allocation, &bytes, data_in)
-        }
-        0xB2 => {
-            let bytes = pages::provisioning();
-            cut::give(allocation, &bytes, data_in)
-        }
-        0x01..=0xAF | 0xB1 | 0xB3..=0xFF => Reply {
-            answer: Answer::Good,
-            returned: 0,
-        },
+        0x00 => cut::give(allocation, &pages::supported(), data_in),
+        0xB0 => cut::give(allocation, &pages::block_limits(), data_in),
+        0xB2 => cut::give(allocation, &pages::provisioning(), data_in),
+        _ => cut::give(allocation, &[], data_in),
     }
 }
 
-pub fn tell(what: Tell, request: Request, unit: Unit, data_in: &mut [u8]) -> Reply
+#[tactic(auto, using(crate::proofs::TellLaws::laws))]
+pub fn tell(what: Tell, request: Request, unit: Unit, data_in: &mut [u8]) -> Result<usize, Answer>
     requires { 1 ≤ unit.capacity }
-    ensures { replied result data_in.new ≡ tells what request unit data_in.old }
+    ensures leaves { replied result data_in.new ≡ tells what request unit data_in.old }
+    ensures refusing { Refusing result }
 {
     let allocation = request.size;
     match what {
-        Tell::Ready => Reply {
-            answer: Answer::Good,
-            returned: 0,
-        },
-        Tell::Inquiry => {
-            let bytes = pages::inquiry();
-            cut::give(allocation, &bytes, data_in)
-        }
+        Tell::Ready => cut::give(allocation, &[], data_in),
+        Tell::Inquiry => cut::give(allocation, &pages::inquiry(), data_in),
         Tell::VitalData => vital(request.page, allocation, data_in),
-        Tell::Capacity10 => {
-            let bytes = pages::capacity10(unit.capacity);
-            cut::give(8, &bytes, data_in)
-        }
-        Tell::Capacity16 => {
-            let bytes = pages::capacity16(unit.capacity);
-            cut::give(allocation, &bytes, data_in)
-        }
-        Tell::Keys => {
-            let rights = unit.rights;
-            let page = told::keys_data(rights);
-            let bytes = page.bytes;
-            let n = page.len;
-            cut::give(allocation, &bytes[..n], data_in)
-        }
-        Tell::Reservation => {
-            let rights = unit.rights;
-            let page = told::reservation_data(rights);
-            let bytes = page.bytes;
-            let n = page.len;
-            cut::give(allocation, &bytes[..n], data_in)
-        }
+        Tell::Capacity10 => cut::give(8, &pages::capacity10(unit.capacity), data_in),
+        Tell::Capacity16 => cut::give(allocation, &pages::capacity16(unit.capacity), data_in),
+        Tell::Keys => cut::give(
+            allocation,
+            told::keys_data(&unit.rights).as_slice(),
+            data_in,
+        ),
+        Tell::Reservation => cut::give(
+            allocation,
+            told::reservation_data(&unit.rights).as_slice(),
+            data_in,
+        ),
     }
 }

@@ -1,8 +1,11 @@
 // The parameter data of INQUIRY, its pages, and READ CAPACITY.
-ghost use Rattle.std.specs.Prelude.{◌≡◌, ◌≤◌, min};
+ghost use Rattle.std.specs.Prelude.{◌≡◌, ◌≤◌};
 ghost use Rattle.store.specs.Vital.{pages_page, limits_page, provisioning_page};
 ghost use Rattle.store.specs.Tell.{inquiry_data, capacity10_data, capacity16_data};
 
+use fields::numbers;
+
+#[tactic(auto, unfolding(store::specs::Tell::inquiry_data))]
 pub fn inquiry() -> [u8; 36]
     ensures { result ≡ inquiry_data }
 {
@@ -14,6 +17,7 @@ pub fn inquiry() -> [u8; 36]
 }
 
 // Page 00h: the pages there are.
+#[tactic(auto, unfolding(store::specs::Vital::pages_page, store::specs::Vital::vital_page, forms::specs::Tests::pages, fields::specs::Field::bytes))]
 pub fn supported() -> [u8; 7]
     ensures { result ≡ pages_page }
 {
@@ -21,6 +25,7 @@ pub fn supported() -> [u8; 7]
 }
 
 // Page B0h: WSNZ and four limits; all others are 0.
+#[tactic(auto, unfolding(store::specs::Vital::limits_page, store::specs::Vital::vital_page, fields::specs::Field::bytes, fields::specs::Bytes::zeros))]
 pub fn block_limits() -> [u8; 64]
     ensures { result ≡ limits_page }
 {
@@ -39,6 +44,7 @@ pub fn block_limits() -> [u8; 64]
 }
 
 // Page B2h: LBPU, LBPWS and LBPRZ 001b; thin.
+#[tactic(auto, unfolding(store::specs::Vital::provisioning_page, store::specs::Vital::vital_page, fields::specs::Field::bytes))]
 pub fn provisioning() -> [u8; 8]
     ensures { result ≡ provisioning_page }
 {
@@ -46,30 +52,22 @@ pub fn provisioning() -> [u8; 8]
 }
 
 // The last address as 32 bits show it: FFFF_FFFFh where it is larger.
-fn shown(last: u64) -> u64
-    ensures { result ≡ min last 0xFFFF_FFFF }
-{
-    if last <= 0xFFFF_FFFF {
-        last
-    } else {
-        0xFFFF_FFFF
-    }
-}
-
+#[tactic(auto, unfolding(store::specs::Tell::capacity10_data, fields::specs::Field::bytes))]
 pub fn capacity10(capacity: u64) -> [u8; 8]
     requires { 1 ≤ capacity }
     ensures { result ≡ capacity10_data capacity }
 {
-    let last = shown(capacity - 1);
-    let a = fields::numbers::bytes4(last as u32);
+    let last = (capacity - 1).min(0xFFFF_FFFF);
+    let a = numbers::bytes::<4>(last);
     [a[0], a[1], a[2], a[3], 0, 0, 2, 0]
 }
 
+#[tactic(auto, unfolding(store::specs::Tell::capacity16_data, fields::specs::Field::bytes, fields::specs::Bytes::zeros))]
 pub fn capacity16(capacity: u64) -> [u8; 32]
     requires { 1 ≤ capacity }
     ensures { result ≡ capacity16_data capacity }
 {
-    let a = fields::numbers::bytes8(capacity - 1);
+    let a = numbers::bytes::<8>(capacity - 1);
     [
         a[0], a[1], a[2], a[3], a[4], a[5], a[6], a[7], 0, 0, 2, 0, 0, 0, 0xC0, 0, 0, 0, 0, 0, 0,
         0, 0, 0, 0, 0, 0, 0, 0, 0, 0, 0,

@@ -10,8 +10,6 @@ use lib.ListN.{length, length-append}
 use lib.Dec.{ltb}
 use borrow.Author.Tests.{ltb-true, ltb-false, lt-ltb, le-ltb}
 use Rattle.text.specs.Text.{digit, digits, decimal, say_after, says, Digits}
-use Rattle.text.specs.Puts.{Puts}
-use Rattle.text.proofs.PutsLaws.{puts_as, puts_then}
 
 -- one digit, or more
 split : {X : Type 0} (x : ℕ) → (x < 10 → X) → (10 ≤ x → X) → X
@@ -41,11 +39,11 @@ enough (suc n) (suc m) x h k =
     (λ l. digits_one (suc n) x l ∙ sym (digits_one (suc m) x l))
     (λ g. digits_more n x g ∙ ap (λ (l : List ℕ). l ++ (digit x ∷ [])) (enough n m (x / 10) (omega arith) (omega arith)) ∙ sym (digits_more m x g))
 
-pub decimal_one : (x : ℕ) → x < 10 → decimal x ≡ digit x ∷ []
+decimal_one : (x : ℕ) → x < 10 → decimal x ≡ digit x ∷ []
 unfolding decimal
 decimal_one x h = digits_one x x h
 
-pub decimal_more : (x : ℕ) → 10 ≤ x → decimal x ≡ decimal (x / 10) ++ (digit x ∷ [])
+decimal_more : (x : ℕ) → 10 ≤ x → decimal x ≡ decimal (x / 10) ++ (digit x ∷ [])
 unfolding decimal
 decimal_more zero h = absurd (omega arith)
 decimal_more (suc y) h =
@@ -120,21 +118,22 @@ decimal_length (suc (suc n)) x g h =
     (λ l. rw (decimal_one x l) (omega arith))
     (λ m. rw (decimal_more x m, length-append) (omega (arith, decimal_length (suc n) (x / 10) (omega arith) tenth)))
 
--- ---- put into a lent buffer
+-- ---- put at the end of a page that has the bytes `l`
 
-module _ (x : ℕ) {l after : List ℕ} {at end : ℕ} where
-  -- one digit
-  pub puts_one : {b : ℕ} → Puts (b ∷ []) l at after end → x < 10 → b ≡ digit x → Puts (decimal x) l at after end
-  puts_one p h e = puts_as (ap (λ (d : ℕ). d ∷ []) e ∙ sym (decimal_one x h)) p
+-- a u64 has at most 20 digits
+pub decimal_most : (l : List ℕ) (x : ℕ) → x < 2 ^ 64 → length (l ++ decimal x) ≤ length l + 20
+decimal_most l x h = omega (arith, length-append l (decimal x), decimal_length 20 x (omega arith) (omega arith))
 
-  -- the digits of the tenth, and the last behind them
-  pub puts_more : {y b next : ℕ} {between : List ℕ} → Puts (decimal y) l at between next → Puts (b ∷ []) between next after end
-      → 10 ≤ x → y ≡ x / 10 → b ≡ digit x → Puts (decimal x) l at after end
-  puts_more p q h d e = puts_as (rw (d, e) (sym (decimal_more x h))) (puts_then p q)
+-- and all but the last are 19
+pub tenth_most : (l : List ℕ) (y : ℕ) → y < 10 ^ 19 → length (l ++ decimal y) ≤ length l + 19
+tenth_most l y h = omega (arith, length-append l (decimal y), decimal_length 19 y (omega arith) h)
 
-  -- at most n bytes
-  pub puts_most : (n : ℕ) → Puts (decimal x) l at after end → 1 ≤ n → x < 10 ^ n → end ≤ at + n
-  puts_most n p g h = omega (arith, p.behind, decimal_length n x g h)
+module _ (l : List ℕ) (x : ℕ) where
+  pub put_one : x < 10 → l ++ (digit x ∷ []) ≡ l ++ decimal x
+  put_one h = ap (λ (t : List ℕ). l ++ t) (sym (decimal_one x h))
+
+  pub put_more : 10 ≤ x → (l ++ decimal (x / 10)) ++ (digit x ∷ []) ≡ l ++ decimal x
+  put_more h = append_assoc l (decimal (x / 10)) (digit x ∷ []) ∙ ap (λ (t : List ℕ). l ++ t) (sym (decimal_more x h))
 
 -- ---- the definition runs: 0, and 2 ^ 40
 

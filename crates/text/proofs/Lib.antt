@@ -1,3 +1,2 @@
-pub mod PutsLaws
 pub mod DecimalLaws
 pub mod HexLaws

@@ -1,1 +1,1 @@
-pub mod PageLaws
+pub mod KeyLaws

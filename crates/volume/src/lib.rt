@@ -3,18 +3,21 @@
 // the room.
 #![tactic(auto)]
 
-ghost use Rattle.std.specs.Prelude.{◌≡◌};
+ghost use Rattle.std.specs.Prelude.{◌≡◌, ◌≤◌, Err, MatchResult};
+ghost use Rattle.pool.specs.Bounds.{most_blocks};
 ghost use Rattle.pool.specs.Pool.{pool};
 ghost use Rattle.volume.specs.Volume as Volume;
 
-use pool::{BLOCK_BYTES, Checked, Lba, MARK_WORDS, MOST_BLOCKS, MOST_SLOTS, MOST_TRANSFER};
+use map::range::{Range, Transfer};
+pub use marks::FreeRoom;
+use marks::Words;
+use pool::{BLOCK_BYTES, Flaw, Lba, MARK_WORDS, MOST_BLOCKS, MOST_SLOTS, MOST_TRANSFER};
 
-// What an entry point answers.
+// What was wrong with a call.
 #[derive(Clone, Copy)]
-pub enum Mapped {
-    Done,
+pub enum Trouble {
     BadBounds,
-    Invalid(Checked),
+    Invalid(Flaw),
     Mismarked,
     TooMany,
     OutOfRange,
@@ -22,68 +25,63 @@ pub enum Mapped {
     NoRoom,
 }
 
-// The room of a pool: how many slots are free, and the lowest of them or, where none is, how many slots there are. A refusal has 0 and 0.
-#[derive(Clone, Copy)]
-pub struct FreeRoom {
-    pub answer: Mapped,
-    pub free: usize,
-    pub lowest: usize,
-}
-
 // Capacity and slots within their bounds.
-fn bounded(capacity: u64, slots: usize) -> Mapped
+#[tactic(auto, using(crate::proofs::Answering::capacity_low, crate::proofs::Answering::capacity_high, crate::proofs::Answering::slots_low, crate::proofs::Answering::slots_high, crate::proofs::Answering::bounds_good))]
+fn bounded(capacity: u64, slots: usize) -> Result<(), Trouble>
     ensures { result ≡ Volume.bounds capacity slots }
 {
     if capacity < 1 || capacity > MOST_BLOCKS {
-        return Mapped::BadBounds;
+        return Err(Trouble::BadBounds);
     }
     if slots < 1 || slots > MOST_SLOTS {
-        return Mapped::BadBounds;
+        return Err(Trouble::BadBounds);
     }
-    Mapped::Done
+    Ok(())
 }
 
 // What is tested of every call that has a pool. One pass tells whether owners and marks are right; what is wrong is looked for only where
 // something is: with the owners, and where nothing is with them, it is the marks.
-fn usable(capacity: u64, owners: &[u64], marks: &[u64], medium: &[u8]) -> Mapped
+#[tactic(auto, using(crate::proofs::Answering::bounds_has, crate::proofs::Answering::usable_bounds, crate::proofs::Answering::usable_medium, crate::proofs::Answering::usable_sound, crate::proofs::Answering::usable_mismarked, crate::proofs::Answering::usable_invalid))]
+fn usable(capacity: u64, owners: &[u64], marks: &[u64], medium: &[u8]) -> Result<(), Trouble>
     ensures { result ≡ Volume.usable capacity (pool owners.now marks.now medium.now) }
 {
-    let slots = owners.len();
-    let bounds = bounded(capacity, slots);
-    let Mapped::Done = bounds else {
-        return bounds;
-    };
-    if medium.len() != BLOCK_BYTES * slots {
-        return Mapped::BadBounds;
+    bounded(capacity, owners.len())?;
+    if medium.len() != BLOCK_BYTES * owners.len() {
+        return Err(Trouble::BadBounds);
     }
     if audit::sound(capacity, owners, marks) {
-        return Mapped::Done;
+        return Ok(());
     }
     match audit::check(capacity, owners) {
-        Checked::Valid => Mapped::Mismarked,
-        Checked::Beyond(s) => Mapped::Invalid(Checked::Beyond(s)),
-        Checked::Clash(s, t) => Mapped::Invalid(Checked::Clash(s, t)),
+        Ok(()) => Err(Trouble::Mismarked),
+        Err(flaw) => Err(Trouble::Invalid(flaw)),
     }
 }
 
-// What is tested of a read or a write besides.
-fn transfer(capacity: u64, lba: Lba, count: usize, lent: usize) -> Mapped
-    ensures { result ≡ Volume.transfer capacity lba.0 count lent }
+// What is tested of a read or a write besides; what passes is handed out as what the map takes.
+#[tactic(auto, using(crate::proofs::Answering::transfer_many, crate::proofs::Answering::transfer_range, crate::proofs::Answering::transfer_short, crate::proofs::Answering::transfer_done))]
+fn transfer(capacity: u64, lba: Lba, count: usize, lent: usize) -> Result<Transfer, Trouble>
+    requires { capacity ≤ most_blocks }
+    ensures { MatchResult result
+        (λ transfer. (Volume.done ≡ Volume.transfer capacity lba.0 count lent)
+        × (transfer.range.first ≡ lba)
+        × (transfer.range.count ≡ count))
+        (λ trouble. Err trouble ≡ Volume.transfer capacity lba.0 count lent) }
 {
-    let a = lba.0;
     if count > MOST_TRANSFER {
-        return Mapped::TooMany;
+        return Err(Trouble::TooMany);
     }
-    if a > capacity || count as u64 > capacity - a {
-        return Mapped::OutOfRange;
-    }
+    let Some(transfer) = Transfer::within(capacity, lba, count as u64) else {
+        return Err(Trouble::OutOfRange);
+    };
     if lent < BLOCK_BYTES * count {
-        return Mapped::Short;
+        return Err(Trouble::Short);
     }
-    Mapped::Done
+    Ok(transfer)
 }
 
 // The first bytes of `out` become those of the blocks; a refusal leaves it.
+#[tactic(auto, using(crate::proofs::Answering::read_unusable, crate::proofs::Answering::read_refused, crate::proofs::Answering::read_done, crate::proofs::Answering::usable_capacity))]
 pub fn read(
     capacity: u64,
     owners: &[u64],
@@ -92,23 +90,18 @@ pub fn read(
     lba: Lba,
     count: usize,
     out: &mut [u8],
-) -> Mapped
+) -> Result<(), Trouble>
     ensures { Volume.read result out.new
         ≡ Volume.read_of capacity (pool owners.now marks.now medium.now) lba.0 count out.old }
 {
-    let pool = usable(capacity, owners, marks, medium);
-    let Mapped::Done = pool else {
-        return pool;
-    };
-    let call = transfer(capacity, lba, count, out.len());
-    let Mapped::Done = call else {
-        return call;
-    };
-    map::read::read_blocks(owners, medium, lba, count, out);
-    Mapped::Done
+    usable(capacity, owners, marks, medium)?;
+    let transfer = transfer(capacity, lba, count, out.len())?;
+    map::read::read_blocks(owners, medium, transfer, out);
+    Ok(())
 }
 
 // The blocks get their places and their bytes; a refusal leaves all.
+#[tactic(auto, using(crate::proofs::Answering::write_unusable, crate::proofs::Answering::write_refused, crate::proofs::Answering::write_done, crate::proofs::Answering::write_full, crate::proofs::Answering::usable_capacity))]
 pub fn write(
     capacity: u64,
     owners: &mut [u64],
@@ -117,26 +110,20 @@ pub fn write(
     lba: Lba,
     count: usize,
     bytes: &[u8],
-) -> Mapped
+) -> Result<(), Trouble>
     ensures { Volume.wrote result owners.new marks.new medium.new
         ≡ Volume.write_of capacity (pool owners.old marks.old medium.old) lba.0 count bytes.now }
 {
-    let pool = usable(capacity, owners, marks, medium);
-    let Mapped::Done = pool else {
-        return pool;
-    };
-    let call = transfer(capacity, lba, count, bytes.len());
-    let Mapped::Done = call else {
-        return call;
-    };
-    if map::write::write_blocks(owners, marks, medium, lba, count, bytes) {
-        Mapped::Done
-    } else {
-        Mapped::NoRoom
+    usable(capacity, owners, marks, medium)?;
+    let transfer = transfer(capacity, lba, count, bytes.len())?;
+    if !map::write::write_blocks(owners, marks, medium, transfer, bytes) {
+        return Err(Trouble::NoRoom);
     }
+    Ok(())
 }
 
 // The slots of the range are freed and their bytes stay; a refusal leaves all.
+#[tactic(auto, using(crate::proofs::Answering::unmap_unusable, crate::proofs::Answering::unmap_beyond, crate::proofs::Answering::unmap_done, crate::proofs::Answering::may_unmap_law, crate::proofs::Answering::usable_capacity))]
 pub fn unmap(
     capacity: u64,
     owners: &mut [u64],
@@ -144,59 +131,43 @@ pub fn unmap(
     medium: &[u8],
     lba: Lba,
     count: u64,
-) -> Mapped
+) -> Result<(), Trouble>
     ensures { Volume.left result owners.new marks.new
         ≡ Volume.unmap_of capacity (pool owners.old marks.old medium.now) lba.0 count }
 {
-    let pool = usable(capacity, owners, marks, medium);
-    let Mapped::Done = pool else {
-        return pool;
+    usable(capacity, owners, marks, medium)?;
+    let Some(range) = Range::within(capacity, lba, count) else {
+        return Err(Trouble::OutOfRange);
     };
-    let a = lba.0;
-    if a > capacity || count > capacity - a {
-        return Mapped::OutOfRange;
-    }
-    map::unmap::unmap_blocks(owners, marks, lba, count);
-    Mapped::Done
+    map::unmap::unmap_blocks(owners, marks, range);
+    Ok(())
 }
 
 // No slot holds a block, and none is marked. The medium is neither taken nor touched.
-pub fn fresh(capacity: u64, owners: &mut [u64], marks: &mut [u64]) -> Mapped
+#[tactic(auto, using(crate::proofs::Answering::fresh_refused, crate::proofs::Answering::fresh_words, crate::proofs::Answering::fresh_done))]
+pub fn fresh(capacity: u64, owners: &mut [u64], marks: &mut [u64]) -> Result<(), Trouble>
     ensures { Volume.left result owners.new marks.new
         ≡ Volume.fresh_of capacity owners.old marks.old }
 {
-    let bounds = bounded(capacity, owners.len());
-    let Mapped::Done = bounds else {
-        return bounds;
-    };
+    bounded(capacity, owners.len())?;
     if marks.len() != MARK_WORDS {
-        return Mapped::BadBounds;
+        return Err(Trouble::BadBounds);
     }
     map::slots::free_all(owners);
     marks::clear_all(marks);
-    Mapped::Done
+    Ok(())
 }
 
-// How many slots are free and which is the lowest, read off the marks. Nothing changes.
-pub fn room(capacity: u64, owners: &[u64], marks: &[u64], medium: &[u8]) -> FreeRoom
+// The room, read off the marks. Nothing changes.
+#[tactic(auto, using(crate::proofs::Answering::room_refused, crate::proofs::Answering::room_told, crate::proofs::Answering::marks_two, crate::proofs::Answering::marked_most))]
+pub fn room(
+    capacity: u64,
+    owners: &[u64],
+    marks: &[u64],
+    medium: &[u8],
+) -> Result<FreeRoom, Trouble>
     ensures { result ≡ Volume.room_of capacity (pool owners.now marks.now medium.now) }
 {
-    let pool = usable(capacity, owners, marks, medium);
-    let Mapped::Done = pool else {
-        return FreeRoom {
-            answer: pool,
-            free: 0,
-            lowest: 0,
-        };
-    };
-    let words = marks::words_of(marks);
-    let slot = marks::lowest(words);
-    let lowest = slot.0;
-    let used = marks::marked(words);
-    let free = owners.len() - used;
-    FreeRoom {
-        answer: Mapped::Done,
-        free,
-        lowest,
-    }
+    usable(capacity, owners, marks, medium)?;
+    Ok(Words::of(marks).room(owners.len()))
 }

@@ -1,8 +1,9 @@
 -- `conflict::column_of` meets its contract.
 -- Assumes nothing.
 use mathlib.Core.Path.{sym, ◌∙◌}
+use borrow.Author.Rules.{rules}
 use Rattle.store.specs.Conflict.{column_under, column_of}
-use Rattle.conflict.proofs.ColumnLaws.{not_holder, write_exclusive, exclusive_access, no_type, no_type_either}
+use Rattle.conflict.proofs.ColumnLaws.{not_holder, write_exclusive, exclusive_access, no_type}
 use Rattle.conflict.proofs.column_of.Goals as goal
 
 pub returns-then-holds : goal.returns-then-holds
@@ -27,10 +28,6 @@ returns-in-6 c =
     not_holder _ _ _ (sym c.holds.ensures ∙ c.if-holds.false)
     (c.registered_or-in-6.ensures ∙ exclusive_access _ _ c.in-6.is)
 
-pub returns-in-0 : goal.returns-in-0
-returns-in-0 c = not_holder _ _ _ (sym c.holds.ensures ∙ c.if-holds.false) (no_type _ _ c.in-0.in-0-own.keys5)
-
-pub returns-in-0-2 : goal.returns-in-0-2
-returns-in-0-2 c =
-    not_holder _ _ _ (sym c.holds.ensures ∙ c.if-holds.false)
-    (no_type_either _ _ c.in-0.in-0-own.rest.0.0.0.0.1 c.in-0.in-0-own.rest.0.0.0.1 c.in-0.in-0-own.rest.0.0.1 c.in-0.in-0-own.rest.0.1)
+pub returns-in_default : goal.returns-in_default
+returns-in_default c =
+    not_holder _ _ _ (sym c.holds.ensures ∙ c.if-holds.false) (search (rules, no_type))

@@ -17,13 +17,12 @@ returns-then-not-stops_anybody c =
     (sym c.stops_anybody.ensures ∙ c.if-not-stops_anybody.true))
 
 pub bounds-row-at : goal.bounds-row-at
-bounds-row-at c = search (rules, column_listed _ _ _ (sym c.column_of-column.ensures ∙ c.in-At.is))
+bounds-row-at c = search (rules, column_listed _ _ _ (sym c.in-Some.ensures))
 
-pub returns-in-Free : goal.returns-in-Free
+pub returns-in-None : goal.returns-in-None
 unfolding conflict says
-returns-in-Free c = rw (sym c.column_of-column.ensures ∙ c.in-Free.is)
+returns-in-None c = rw (sym c.in-None.ensures)
 
-pub returns-in-At : goal.returns-in-At
+pub returns-in-Some : goal.returns-in-Some
 unfolding conflict says
-returns-in-At c =
-    rw (c.row_of-row.ensures, sym c.column_of-column.ensures ∙ c.in-At.is)
+returns-in-Some c = rw (c.row_of-row.ensures, sym c.in-Some.ensures)

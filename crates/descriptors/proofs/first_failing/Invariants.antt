@@ -1,16 +1,10 @@
--- `descriptors::first_failing`: the reader goes along the list as lent; what is told of the descriptors left is told of all.
+-- `first_failing`: what is told of the descriptors left is told of all.
 -- Assumes nothing.
-use Rattle.std.proofs.Common.{◌≡◌, ◌+◌, ◌*◌, ◌≤◌}
+use Rattle.std.proofs.Common.{◌≡◌}
 use Rattle.descriptors.specs.Descriptors.{first_failing}
 use Rattle.descriptors.proofs.first_failing.Given as goal
 
-abbrev pub invariant-loop-left : goal.invariant-loop-left
-invariant-loop-left l = record {
-  same_list : l.reader.list.now ≡ l.list;
-  within : l.left ≤ l.count;
-  placed : l.reader.at + 16 * l.left ≡ 8 + 16 * l.count;
-  same : first_failing l.capacity l.list l.reader.at l.left ≡ first_failing l.capacity l.list 8 l.count;
-}
-
-abbrev pub decreases-loop-left : goal.decreases-loop-left
-decreases-loop-left l = l.left
+abbrev pub invariant-loop-descriptor : goal.invariant-loop-descriptor
+invariant-loop-descriptor l = goal.iterator-loop-descriptor.can_next l.descriptor-iterator
+    × goal.iterator-loop-descriptor.is_finite l.descriptor-iterator
+    × (first_failing l.capacity l.descriptor-iterator.list.now l.descriptor-iterator.at l.descriptor-iterator.left ≡ first_failing l.capacity l.list 8 l.count)

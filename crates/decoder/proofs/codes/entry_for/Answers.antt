@@ -1,6 +1,6 @@
 -- `decoder::codes::entry_for` meets its contract. Assumes nothing.
-use mathlib.Core.Logic.{inl, inr}
 use mathlib.Core.Path.{sym}
+use borrow.Author.Rules.{rules}
 use borrow.Author.Tests.{ne_eqb}
 use Rattle.forms.proofs.Table.{lookup_skips, lists}
 use Rattle.forms.specs.Forms.{entry_for, lookup, lines, takes}
@@ -19,15 +19,14 @@ returns-in-37 c = simp (c.plain-in-37.ensures, c.in-37.is)
 
 pub returns-in-40 : goal.returns-in-40
 unfolding entry_for lookup lines takes
-returns-in-40 c = simp (c.transfer10.ensures, c.in-40.is)
+returns-in-40 c = simp (c.transfer.ensures, c.in-40.is)
 
 pub returns-in-42 : goal.returns-in-42
 unfolding entry_for lookup lines takes
-returns-in-42 c = simp (c.transfer10-in-42.ensures, c.in-42.is)
+returns-in-42 c = simp (c.transfer-in-42.ensures, c.in-42.is)
 
 pub returns-in-66 : goal.returns-in-66
-unfolding entry_for lookup lines takes
-returns-in-66 c = simp (c.line.ensures, c.in-66.is)
+returns-in-66 c = simp (c.unmapping.ensures c.args.action, c.in-66.is)
 
 pub returns-in-94 : goal.returns-in-94
 returns-in-94 c = simp (c.reserve_in.ensures, c.in-94.is)
@@ -37,23 +36,22 @@ returns-in-95 c = simp (c.reserve_out.ensures, c.in-95.is)
 
 pub returns-in-136 : goal.returns-in-136
 unfolding entry_for lookup lines takes
-returns-in-136 c = simp (c.transfer16.ensures, c.in-136.is)
+returns-in-136 c = simp (c.transfer-in-136.ensures, c.in-136.is)
 
 pub returns-in-138 : goal.returns-in-138
 unfolding entry_for lookup lines takes
-returns-in-138 c = simp (c.transfer16-in-138.ensures, c.in-138.is)
+returns-in-138 c = simp (c.transfer-in-138.ensures, c.in-138.is)
 
 pub returns-in-147 : goal.returns-in-147
-unfolding entry_for lookup lines takes
-returns-in-147 c = simp (c.same16.ensures, c.in-147.is)
+returns-in-147 c = simp (c.writing_same.ensures c.args.action, c.in-147.is)
 
 pub returns-in-158 : goal.returns-in-158
 returns-in-158 c = simp (c.service_in.ensures, c.in-158.is)
 
 pub returns-in-1-to-17 : goal.returns-in-1-to-17
 unfolding entry_for lines lists
-returns-in-1-to-17 c = sym (lookup_skips _ _ _ _ (elim c.in-1-to-17.in-1-to-17-own.keys13 [ inl e ↦ simp e | inr e ↦ simp e ]))
+returns-in-1-to-17 c = sym (lookup_skips _ _ _ _ (search (rules, ne_eqb)))
 
 pub returns-in-1-to-17-2 : goal.returns-in-1-to-17-2
 unfolding entry_for lines lists
-returns-in-1-to-17-2 c = sym (lookup_skips _ _ _ _ (let r = c.in-1-to-17.in-1-to-17-own.rest in simp (ne_eqb _ 0 r.0.0.0.0.0.0.0.0.0.0.0.0.1, ne_eqb _ 18 r.0.0.0.0.0.0.0.0.0.0.0.1, ne_eqb _ 37 r.0.0.0.0.0.0.0.0.0.0.1, ne_eqb _ 40 r.0.0.0.0.0.0.0.0.0.1, ne_eqb _ 42 r.0.0.0.0.0.0.0.0.1, ne_eqb _ 66 r.0.0.0.0.0.0.0.1, ne_eqb _ 94 r.0.0.0.0.0.0.1, ne_eqb _ 95 r.0.0.0.0.0.1, ne_eqb _ 136 r.0.0.0.0.1, ne_eqb _ 138 r.0.0.0.1, ne_eqb _ 147 r.0.0.1, ne_eqb _ 158 r.0.1)))
+returns-in-1-to-17-2 c = sym (lookup_skips _ _ _ _ (search (rules, ne_eqb)))

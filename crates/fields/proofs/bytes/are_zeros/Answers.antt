@@ -1,22 +1,11 @@
--- `fields::bytes::are_zeros` meets its contract: the bytes passed are zeros, so all are where those left are.
--- Assumes nothing.
-use mathlib.Core.Path.{sym, refl, ◌∙◌}
-use native.Mathlib.Omega.{arith}
-use borrow.Author.Rules.{rules}
-use Rattle.fields.proofs.BytesTurns.{zeros_turn, zeros_stop, zeros_end}
+use mathlib.Core.Path.{◌∙◌}
+use Rattle.std.proofs.Common.{rules, tests}
+use Rattle.std.proofs.lemmas.Iterator.{YieldsList-from_slice}
+use Rattle.std.proofs.lemmas.Iterator.Search.{all_from_yields_List}
+use Rattle.fields.proofs.BytesLaws.{all_zeros}
 use Rattle.fields.proofs.bytes.are_zeros.Goals as goal
-
-pub loop-i-init : goal.loop-i-init
-loop-i-init c = (search rules, refl, refl)
-
-pub returns-then-bytes-i-ne0 : goal.returns-then-bytes-i-ne0
-returns-then-bytes-i-ne0 c =
-    sym (c.loop-i.invariant.2 ∙ zeros_stop c.args.bytes.now c.loop-i.i (omega arith) c.if-bytes-i-ne0.true)
-
-pub loop-i-preserved : goal.loop-i-preserved
-loop-i-preserved c =
-    (search rules, c.loop-i.invariant.1, c.loop-i.invariant.2 ∙ zeros_turn c.args.bytes.now c.loop-i.i (omega arith) c.if-bytes-i-ne0.false)
 
 pub returns : goal.returns
 returns c =
-    sym (c.loop-i.invariant.2 ∙ zeros_end c.args.bytes.now c.loop-i.i (omega arith))
+    all_from_yields_List _ _ _ _ c.all.ensures.ran (YieldsList-from_slice c.args.bytes.now cc) (λ x b q k. search (rules, tests))
+    ∙ all_zeros c.args.bytes.now

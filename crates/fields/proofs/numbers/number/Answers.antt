@@ -1,38 +1,30 @@
--- `fields::numbers::number` meets its contract.
+-- `number`: the number of the bytes passed.
 -- Assumes nothing.
-use mathlib.Core.Path.{◌≡◌, refl}
 use Prim.Native.Nat.{◌+◌, ◌*◌}
 use native.Mathlib.Omega.{arith}
+use borrow.Author.Rules.{rules}
 use Rattle.fields.specs.Field.{field}
 use Rattle.fields.proofs.FieldLaws.{field_next, below_more, below_64}
 use Rattle.fields.proofs.numbers.number.Goals as goal
 
 pub loop-i-init : goal.loop-i-init
 unfolding field
-loop-i-init c = (omega arith, (refl, omega arith))
+loop-i-init c = search rules
 
-pub overflow_mul-v : goal.overflow_mul-v
-overflow_mul-v c =
+pub overflow_mul-number : goal.overflow_mul-number
+overflow_mul-number c =
     let l = c.loop-i in
-    omega (arith, below_64 (l.i + 1) (l.v * 256 + 0) (omega arith) (below_more l.i l.v 0 l.invariant.1.1 (omega arith)))
+    omega (arith, below_64 (l.i + 1) (l.number * 256 + 0) (omega arith) (below_more l.i l.number 0 l.invariant.below (omega arith)))
 
-pub overflow_add-v : goal.overflow_add-v
-overflow_add-v c =
+pub overflow_add-number : goal.overflow_add-number
+overflow_add-number c =
     let l = c.loop-i in
-    record { fits = below_64 (l.i + 1) _ (omega arith) (below_more l.i l.v c.wide.result l.invariant.1.1 c.wide.ensures.1) }
+    record { fits = below_64 (l.i + 1) _ (omega arith) (below_more l.i l.number c.from.result l.invariant.below (omega arith)) }
 
 pub loop-i-preserved : goal.loop-i-preserved
 loop-i-preserved c =
-    let l = c.loop-i in (
-      omega arith,
-      (
-        simp (field_next, l.invariant.1.0, c.wide.ensures.0, c.byte.ensures),
-        below_more l.i l.v c.wide.result l.invariant.1.1 c.wide.ensures.1,
-      ),
-    )
-
-pub returns : goal.returns
-returns c =
     let l = c.loop-i in
-    let e : l.i ≡ c.args.width = omega arith in
-    rw (← e) l.invariant.1
+    record {
+      value = simp (field_next, l.invariant.value, c.from.ensures, c.byte.ensures);
+      below = below_more l.i l.number c.from.result l.invariant.below (omega arith);
+    }

@@ -6,7 +6,4 @@ use Rattle.map.specs.Index.{places}
 use Rattle.map.proofs.index.index_of.Given as goal
 
 abbrev pub invariant-loop-i : goal.invariant-loop-i
-invariant-loop-i l = (l.i ≤ l.n) × (l.n ≡ length l.owners) × (length l.index ≡ most_transfer) × (take l.count l.index ≡ map (λ p. l.i + p) (places (drop l.i l.owners) l.a l.count))
-
-abbrev pub decreases-loop-i : goal.decreases-loop-i
-decreases-loop-i l = l.i
+invariant-loop-i l = (l.i ≤ length l.owners) × (length l.index ≡ most_transfer) × (take l.fn.transfer.range.count l.index ≡ map (λ p. l.i + p) (places (drop l.i l.owners) l.first l.fn.transfer.range.count))

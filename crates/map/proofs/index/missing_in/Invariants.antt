@@ -1,11 +1,8 @@
--- `missing_in`: those counted and those left are all.
+-- `missing_in`: what is missing among the addresses passed.
 -- Assumes nothing.
-use Rattle.std.proofs.Common.{◌≡◌, ◌+◌, ◌-◌, ◌≤◌, take, drop}
-use Rattle.map.specs.Index.{missing}
+use Rattle.std.proofs.Common.{◌≡◌, eqb, take}
+use Rattle.std.specs.List.{count_by}
 use Rattle.map.proofs.index.missing_in.Given as goal
 
-abbrev pub invariant-loop-k : goal.invariant-loop-k
-invariant-loop-k l = (l.k ≤ l.count) × (l.n ≤ l.k) × (l.n + missing l.slots (drop l.k (take l.count l.index)) ≡ missing l.slots (take l.count l.index))
-
-abbrev pub decreases-loop-k : goal.decreases-loop-k
-decreases-loop-k l = l.count - l.k
+abbrev pub invariant-loop-slot : goal.invariant-loop-slot
+invariant-loop-slot l = l.n ≡ count_by (λ x. eqb x l.slots) (take l.slot-index l.slot-items)

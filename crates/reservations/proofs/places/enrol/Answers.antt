@@ -1,16 +1,18 @@
 -- `reservations::places::enrol` meets its contract.
 -- Assumes nothing.
-use Rattle.std.proofs.Common.{◌≡◌, ◌≤◌, length, sym, ◌∙◌, arith, rules}
-use lib.Seq.{set_out}
-use Rattle.reservations.proofs.SearchLaws.{enrol_found}
+use Rattle.std.proofs.Common.{not, rules, tests, ◌∙◌, sym}
+use Rattle.std.proofs.lemmas.Iterator.{YieldsList-from_slice}
+use Rattle.std.proofs.lemmas.Iterator.Search.{position_from_yields_List}
+use Rattle.rights.specs.Places.{used}
+use Rattle.reservations.proofs.ChangeLaws.{enrol_found, enrol_full}
 use Rattle.reservations.proofs.places.enrol.Goals as goal
 
-pub returns-then-i-lt-REGISTRATION_PLACES : goal.returns-then-i-lt-REGISTRATION_PLACES
-returns-then-i-lt-REGISTRATION_PLACES c = simp (enrol_found, c.seek-i.ensures)
+pub returns-in-Some : goal.returns-in-Some
+returns-in-Some c =
+    let found = position_from_yields_List (λ p. not (used p)) _ _ _ c.position.ensures.ran (YieldsList-from_slice c.args.places.now cc) (λ x b q k. search (rules, tests)) in
+    enrol_found _ _ _ _ (sym c.in-Some.is ∙ found)
 
-pub returns-else-i-lt-REGISTRATION_PLACES : goal.returns-else-i-lt-REGISTRATION_PLACES
-returns-else-i-lt-REGISTRATION_PLACES c =
-    let a = c.args in
-    let n : length a.places ≡ 8 = search rules in
-    let h : length a.places ≤ c.seek-i.result = omega (arith, c.if-i-lt-REGISTRATION_PLACES.false) in
-    sym (enrol_found a.nexus a.key a.places ∙ rw (sym c.seek-i.ensures) (set_out a.places c.seek-i.result _ h))
+pub returns-in_default : goal.returns-in_default
+returns-in_default c =
+    let found = position_from_yields_List (λ p. not (used p)) _ _ _ c.position.ensures.ran (YieldsList-from_slice c.args.places.now cc) (λ x b q k. search (rules, tests)) in
+    enrol_full _ _ _ (sym c.in_default.is ∙ found)

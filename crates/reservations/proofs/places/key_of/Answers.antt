@@ -1,17 +1,15 @@
 -- `reservations::places::key_of` meets its contract.
 -- Assumes nothing.
-use Rattle.std.proofs.Common.{◌≡◌, length, sym, ap, ◌∙◌, arith, rules}
-use lib.ListN.{get_or-eq_default}
-use Rattle.rights.specs.declared.Place.{Place}
-use Rattle.rights.specs.Places.{unused}
-use Rattle.reservations.proofs.SearchLaws.{key_found}
+use Rattle.std.proofs.Common.{◌≡◌, rules, tests, ◌∙◌}
+use Rattle.std.proofs.lemmas.Iterator.{YieldsList-from_slice}
+use Rattle.std.proofs.lemmas.Iterator.Search.{find_from_yields_List}
+use Rattle.std.specs.Option.{option_map_or}
+use Rattle.rights.specs.Places.{is_of}
+use Rattle.reservations.proofs.SearchLaws.{key_of_found}
 use Rattle.reservations.proofs.places.key_of.Goals as goal
 
-pub returns-then-i-lt-REGISTRATION_PLACES : goal.returns-then-i-lt-REGISTRATION_PLACES
-returns-then-i-lt-REGISTRATION_PLACES c = simp (key_found, c.seek-i.ensures)
-
-pub returns-else-i-lt-REGISTRATION_PLACES : goal.returns-else-i-lt-REGISTRATION_PLACES
-returns-else-i-lt-REGISTRATION_PLACES c =
-    let a = c.args in
-    let n : length a.places ≡ 8 = search rules in
-    sym (key_found a.nexus a.places ∙ rw (sym c.seek-i.ensures) (ap (λ (p : Place). p.key) (get_or-eq_default a.places unused (omega (arith, c.if-i-lt-REGISTRATION_PLACES.false)))))
+pub returns : goal.returns
+returns c =
+    let found = find_from_yields_List (is_of c.args.nexus) _ _ c.find.result c.find.ensures.ran (YieldsList-from_slice c.args.places.now cc) (λ x b q k. search (rules, tests)) in
+    let key : c.map_or.result ≡ option_map_or (λ p. p.now.key) c.find.result 0 = search rules in
+    key ∙ key_of_found c.args.nexus c.args.places.now c.find.result found

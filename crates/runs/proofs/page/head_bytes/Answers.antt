@@ -6,4 +6,4 @@ use Rattle.runs.proofs.page.head_bytes.Goals as goal
 
 pub returns : goal.returns
 unfolding bytes zeros
-returns c = simp c.bytes4-n.ensures
+returns c = simp c.bytes-n.ensures

@@ -7,4 +7,4 @@ use Rattle.runs.proofs.page.run_bytes.Goals as goal
 
 pub returns : goal.returns
 unfolding bytes zeros run_bytes
-returns c = simp (c.bytes8-a.ensures, c.bytes4-n.ensures, c.status_of-status.ensures)
+returns c = simp (c.bytes-a.ensures, c.bytes-n.ensures, c.status_of-status.ensures)

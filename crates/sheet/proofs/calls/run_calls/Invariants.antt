@@ -1,4 +1,5 @@
 use mathlib.Core.Path.{◌≡◌}
+use mathlib.Core.List.{◌++◌}
 use Prim.Native.Nat.{◌+◌, ◌-◌, ◌*◌, ◌≤◌}
 use lib.ListN.{length}
 use Rattle.answers.specs.Sense.{fixed}
@@ -7,14 +8,14 @@ use Rattle.reply.specs.Contract.{store_of}
 use Rattle.sheet.specs.Printed.{slots, lines_from, lines_of}
 use Rattle.contents.specs.Contents.{bodies_end}
 use Rattle.lines.specs.Most.{line_most}
-use Rattle.sheet.proofs.CallLaws.{ToCome}
 use Rattle.sheet.proofs.calls.run_calls.Given as goal
 
 abbrev pub invariant-loop-i : goal.invariant-loop-i
-invariant-loop-i l =
-    (l.i ≤ l.n) × (length l.owners ≡ slots) × (length l.marks ≡ mark_words) × (length l.medium ≡ 512 * slots) × (length l.out ≡ length l.initial.out) × (l.end ≤ l.start + line_most * l.i)
-    × (bodies_end l.sheet l.i (l.n - l.i) l.at ≡ length l.sheet)
-    × (ToCome (lines_of l.sheet) l.initial.out l.start (lines_from (store_of fixed l.unit l.owners l.marks l.medium) l.sheet l.i (l.n - l.i) l.at) l.out l.end)
-
-abbrev pub decreases-loop-i : goal.decreases-loop-i
-decreases-loop-i l = l.n - l.i
+invariant-loop-i l = record {
+  owners : length l.owners ≡ slots;
+  marks : length l.marks ≡ mark_words;
+  medium : length l.medium ≡ 512 * slots;
+  most : length l.page ≤ length l.initial.page + line_most * l.i;
+  bodies : bodies_end l.sheet l.i (l.n - l.i) l.at ≡ length l.sheet;
+  lines : l.page ++ lines_from (store_of fixed l.unit l.owners l.marks l.medium) l.sheet l.i (l.n - l.i) l.at ≡ l.initial.page ++ lines_of l.sheet;
+}

@@ -1,8 +1,10 @@
+use mathlib.Core.Path.{ap, ◌∙◌}
+use mathlib.Core.List.{List, ◌++◌}
+use Prim.Native.Nat.{ℕ}
 use native.Mathlib.Omega.{arith}
 use Rattle.sheet.specs.Printed.{seen_line}
 use Rattle.contents.specs.Contents.{body_end}
 use Rattle.sheet.proofs.CallLaws.{call_is, served_store, served_line, returned_most}
-use Rattle.text.proofs.PutsLaws.{puts_as}
 use Rattle.sheet.proofs.calls.serve.Goals as goal
 
 pub overflow_add-middle : goal.overflow_add-middle
@@ -25,14 +27,17 @@ slice_bounds-execute-end-2 c =
 pub overflow_add-i : goal.overflow_add-i
 overflow_add-i c = omega (arith, c.requires.0)
 
-pub put_line-end-requires : goal.put_line-end-requires
-put_line-end-requires c =
-    let r = returned_most _ _ _ _ _ _ (c.execute-o.ensures) in
-    (omega (arith, c.requires.0), omega (arith, r), omega (arith, r), omega (arith, c.requires.3))
+pub put_line-requires : goal.put_line-requires
+put_line-requires c =
+    let r = returned_most _ _ _ _ _ _ (c.execute-outcome.ensures) in
+    (omega arith, (omega (arith, c.requires.0), omega (arith, r), omega (arith, r), omega (arith, c.requires.3)))
 
 pub returns : goal.returns
 unfolding seen_line
 returns c =
-    let q =
-    call_is _ _ (c.args.at) _ _ _ (c.nexus_of-nexus.ensures) c.cdb_length.ensures.0 c.out_length.ensures.0 in
-    record { left = served_store _ _ _ _ (c.execute-o.ensures) q; line = puts_as (served_line _ _ _ _ (c.execute-o.ensures) q _) c.put_line-end.ensures.0; most = omega (arith, c.put_line-end.ensures.1) }
+    let q = call_is _ _ (c.args.at) _ _ _ (c.nexus_of-nexus.ensures) c.cdb_length.ensures.0 c.out_length.ensures.0 in
+    record {
+      left = served_store _ _ _ _ (c.execute-outcome.ensures) q;
+      line = c.put_line.ensures.0 ∙ ap (λ (l : List ℕ). c.args.page.now ++ l) (served_line _ _ _ _ (c.execute-outcome.ensures) q _);
+      most = omega (arith, c.put_line.ensures.1);
+    }

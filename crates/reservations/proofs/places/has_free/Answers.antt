@@ -1,0 +1,11 @@
+-- `reservations::places::has_free` meets its contract.
+-- Assumes nothing.
+use Rattle.std.proofs.Common.{not, rules, tests}
+use Rattle.std.proofs.lemmas.Iterator.{YieldsList-from_slice}
+use Rattle.std.proofs.lemmas.Iterator.Search.{any_from_yields_List}
+use Rattle.rights.specs.Places.{used}
+use Rattle.reservations.proofs.SearchLaws.{vacant_found}
+use Rattle.reservations.proofs.places.has_free.Goals as goal
+
+pub returns : goal.returns
+returns c = vacant_found _ _ (any_from_yields_List (λ p. not (used p)) _ _ _ c.any.ensures.ran (YieldsList-from_slice c.args.places.now cc) (λ x b q k. search (rules, tests)))

@@ -1,7 +1,0 @@
-use Rattle.ridge.proofs.InterfaceLaws.{executes}
-use Rattle.ridge.proofs.by_value.execute.Goals as goal
-
-pub returns : goal.returns
-returns c =
-    rw (c.number_of.ensures)
-    (executes _ _ (c.execute-outcome.result) _ _ _ _ _ (c.execute-outcome.ensures))

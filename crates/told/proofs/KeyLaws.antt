@@ -72,3 +72,8 @@ pub reservation_some : (r : Rights) → (r.kind ≡ 0 → ⊥)
     → ((((bytes 4 r.generation ++ bytes 4 16) ++ bytes 8 (holder_key r)) ++ zeros 2) ++ bytes 4 r.kind) ++ zeros 2 ≡ reservation_data r
 unfolding reservation_data
 reservation_some r e = rw (ne_eqb _ _ e) (simp append_assoc)
+
+-- ---- no second page shows the same
+
+pub shows_only : (page other shown : List ℕ) → page ≡ shown → other ≡ shown → page ≡ other
+shows_only page other shown e f = e ∙ sym f

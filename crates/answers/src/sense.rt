@@ -22,7 +22,7 @@ pub const DESCRIPTOR_BYTES: usize = 20;
 const MOST_SHOWN: u64 = 0xFFFF_FFFF;
 
 // What sense data tells beside key and codes: nothing; the byte that says into what it points and at which bit, and the number of the byte that it
-// points at; or a block address.
+// points at; or a block address. No `Option`: one match tells all three.
 #[derive(Clone, Copy)]
 pub enum Detail {
     Nothing,

@@ -109,6 +109,7 @@ pub fn send(
         sender,
     };
     let mut all = attentions;
+    // By number: the place of an attention is the nexus that `renewed` asks about.
     for nexus in 0..NEXUSES {
         all[nexus] = deed.renewed(nexus as u64, all[nexus]);
     }

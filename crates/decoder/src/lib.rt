@@ -69,7 +69,7 @@ fn request_of(form: Form, cdb: &[u8]) -> Request
     }
 }
 
-// One of the six types of a reservation.
+// One of the six types of a reservation, all by name: which of them one nexus holds, and which all do, is told apart by the rights.
 #[tactic(auto, unfolding(rights::specs::Rights::is_type, rights::specs::Rights::is_one_of))]
 fn is_type(kind: u8) -> bool
     ensures { result ≡ is_type kind }

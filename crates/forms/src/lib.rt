@@ -59,7 +59,7 @@ pub enum Test {
 }
 
 // The row of a command: which it is, where its block address stands and its count, allocation length or list length, if it has them, and
-// which of its fields can be wrong, in the order of the tests.
+// which of its fields can be wrong, in the order of the tests: three, `Nothing` where there are fewer, in memory of a fixed size.
 #[derive(Clone, Copy)]
 pub struct Form {
     pub command: Command,

@@ -37,6 +37,7 @@ pub fn read_blocks(owners: &[u64], medium: &[u8], transfer: Transfer, out: &mut 
 {
     let index = index::index_of(owners, transfer);
     let count = transfer.range.count as usize;
+    // By number: block k has its place in the index and its bytes at k blocks; two iterators side by side are no plainer.
     for k in 0..count {
         let from = BLOCK_BYTES * k;
         let end = from + BLOCK_BYTES;

@@ -23,6 +23,7 @@ fn assign_blocks(owners: &mut [u64], marks: &mut [u64], index: &mut [usize], tra
         × Indexed owners.new transfer.range.first.0 transfer.range.count index.new }
 {
     let mut words = Words::of(marks);
+    // By number: k gives the address, and the index changes.
     for k in 0..transfer.range.count as usize {
         if index[k] < owners.len() {
             continue;
@@ -70,6 +71,7 @@ fn put_blocks(medium: &mut [u8], index: &[usize], count: usize, bytes: &[u8], st
     ensures { (source : List ℕ) → Stepped step count bytes.now source
         → medium.new ≡ put_places (take count index.now) medium.old source }
 {
+    // By number, as a read is.
     for k in 0..count {
         let from = step * k;
         let at = BLOCK_BYTES * index[k];

@@ -8,7 +8,7 @@ pub const LAST_NEXUS: u64 = 15;
 // How many there are.
 pub const NEXUSES: usize = 16;
 
-// What can wait for a nexus.
+// What can wait for a nexus. Numbers and no enum: they stand in C's record, where any byte may be found.
 pub const NO_ATTENTION: u8 = 0;
 
 pub const REGISTRATIONS_PREEMPTED: u8 = 1;
@@ -17,7 +17,7 @@ pub const RESERVATIONS_PREEMPTED: u8 = 2;
 
 pub const RESERVATIONS_RELEASED: u8 = 3;
 
-// The types of a reservation, and the type where there is none.
+// The types of a reservation, and the type where there is none: numbers, for the same reason.
 pub const NO_TYPE: u32 = 0;
 
 pub const WRITE_EXCLUSIVE: u32 = 1;

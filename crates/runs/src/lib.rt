@@ -41,6 +41,7 @@ impl Map<'_> {
     {
         let mut a = lba.0;
         let mut likely = false;
+        // By number: it is how many runs there are, and gives the place of each.
         for count in 0..MOST_RUNS {
             if a >= self.capacity {
                 return count;

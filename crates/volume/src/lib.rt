@@ -25,7 +25,7 @@ pub enum Trouble {
     NoRoom,
 }
 
-// Capacity and slots within their bounds.
+// Capacity and slots within their bounds. `readiness` has these tests too, above the commands: the volume stands without them.
 #[tactic(auto, using(crate::proofs::Answering::capacity_low, crate::proofs::Answering::capacity_high, crate::proofs::Answering::slots_low, crate::proofs::Answering::slots_high, crate::proofs::Answering::bounds_good))]
 fn bounded(capacity: u64, slots: usize) -> Result<(), Trouble>
     ensures { result ≡ Volume.bounds capacity slots }

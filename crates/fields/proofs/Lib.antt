@@ -1,5 +1,6 @@
 pub mod Tests
 pub mod BytesLaws
 pub mod BytesTurns
+pub mod PageLaws
 pub mod FieldLaws
 pub mod BitsLaws

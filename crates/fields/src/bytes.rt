@@ -1,4 +1,4 @@
-// Bytes in lent buffers: laid over, copied, cleared, and whether they are zeros.
+// Bytes in lent buffers: laid over, copied, and whether they are zeros.
 ghost use Rattle.std.specs.Prelude.{◌≡◌, ◌≤◌, length};
 ghost use Rattle.fields.specs.Bytes as Bytes;
 

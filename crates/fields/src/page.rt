@@ -1,23 +1,31 @@
 // A page of bytes that grows at its end, in memory of a fixed size.
-ghost use Rattle.std.specs.Prelude.{◌≡◌, ℕ, ◌+◌, ◌<◌, ◌≤◌, List, [], ◌∷◌, ◌++◌, length, take};
+ghost use Rattle.std.specs.Prelude.{◌≡◌, ◌+◌, ◌<◌, ◌≤◌, [], ◌∷◌, ◌++◌, length};
 
 use std::marker::Model;
 
 // At most `N` bytes. No `ArrayVec` of the library: a clause sees this one as a plain list, and what it asks is room, where
 // `try_extend_from_slice` answers with a `Result`.
-#[derive(Drop)]
+#[derive(Clone, Copy)]
 pub struct Page<const N: usize> {
     bytes: [u8; N],
     len: usize,
 }
 
-// Clauses see the bytes that the page has.
+// Clauses see the bytes that the page has. Behind them are zeros, so that no two pages differ that have the same bytes.
 impl<const N: usize> Model for Page<N> {
+    ghost use Rattle.std.specs.Prelude.{List, ℕ};
+
     ghost Value = { List ℕ };
 
-    ghost view = { λ p. take p.len p.bytes };
+    ghost use Rattle.fields.specs.Page.{page_view, IsPage, page_of, page_same};
 
-    ghost invariant = { λ p. p.len ≤ N };
+    ghost view = { page_view };
+
+    ghost invariant = { IsPage };
+
+    ghost inverse = { page_of N };
+
+    ghost inverse_ok = { page_same N };
 }
 
 impl<const N: usize> Page<N> {

@@ -11,6 +11,8 @@ use lib.Seq.{take-suc, length-take-le}
 use borrow.Author.Tests.{eq-eqb, ne_eqb}
 use Rattle.fields.specs.Bytes.{zeros}
 use Rattle.fields.specs.Field.{bytes}
+use Rattle.fields.specs.Page.{page_view, IsPage, page_of, page_same}
+use Rattle.fields.specs.declared.page.Page.TheInside.{Inside}
 use Rattle.fields.proofs.FieldLaws.{length_bytes}
 use Rattle.rights.specs.declared.Place.{Place}
 use Rattle.rights.specs.declared.Rights.{Rights}
@@ -73,7 +75,8 @@ pub reservation_some : (r : Rights) → (r.kind ≡ 0 → ⊥)
 unfolding reservation_data
 reservation_some r e = rw (ne_eqb _ _ e) (simp append_assoc)
 
--- ---- no second page shows the same
+-- ---- no second page shows the same: its length and all bytes of its memory are those of the first
 
-pub shows_only : (page other shown : List ℕ) → page ≡ shown → other ≡ shown → page ≡ other
-shows_only page other shown e f = e ∙ sym f
+pub shows_only : (n : ℕ) (page other : Inside n) (shown : List ℕ) → IsPage page → IsPage other → page_view page ≡ shown → page_view other ≡ shown
+    → page ≡ other
+shows_only n page other shown h k e f = sym (page_same n page h) ∙ ap (page_of n) (e ∙ sym f) ∙ page_same n other k

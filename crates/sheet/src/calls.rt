@@ -59,7 +59,7 @@ fn serve(
         &mut sense,
     );
     *unit = outcome.unit;
-    lines::put_line(
+    lines::append_line(
         page,
         i as usize + 1,
         outcome.answer,

@@ -39,11 +39,11 @@ enough (suc n) (suc m) x h k =
     (λ l. digits_one (suc n) x l ∙ sym (digits_one (suc m) x l))
     (λ g. digits_more n x g ∙ ap (λ (l : List ℕ). l ++ (digit x ∷ [])) (enough n m (x / 10) (omega arith) (omega arith)) ∙ sym (digits_more m x g))
 
-decimal_one : (x : ℕ) → x < 10 → decimal x ≡ digit x ∷ []
+pub decimal_one : (x : ℕ) → x < 10 → decimal x ≡ digit x ∷ []
 unfolding decimal
 decimal_one x h = digits_one x x h
 
-decimal_more : (x : ℕ) → 10 ≤ x → decimal x ≡ decimal (x / 10) ++ (digit x ∷ [])
+pub decimal_more : (x : ℕ) → 10 ≤ x → decimal x ≡ decimal (x / 10) ++ (digit x ∷ [])
 unfolding decimal
 decimal_more zero h = absurd (omega arith)
 decimal_more (suc y) h =
@@ -118,22 +118,20 @@ decimal_length (suc (suc n)) x g h =
     (λ l. rw (decimal_one x l) (omega arith))
     (λ m. rw (decimal_more x m, length-append) (omega (arith, decimal_length (suc n) (x / 10) (omega arith) tenth)))
 
--- ---- put at the end of a page that has the bytes `l`
+-- ---- put into a lent buffer
+
+-- a u64 has at most 19 digits before its last
+pub tenth_most : (y : ℕ) → y < 10 ^ 19 → length (decimal y) ≤ 19
+tenth_most y h = decimal_length 19 y (omega arith) h
+
+-- what one turn wants
+pub ruleset decimal_steps = (decimal_one, decimal_more, tenth_most)
+
+-- ---- appended to a page that has the bytes `l`
 
 -- a u64 has at most 20 digits
 pub decimal_most : (l : List ℕ) (x : ℕ) → x < 2 ^ 64 → length (l ++ decimal x) ≤ length l + 20
 decimal_most l x h = omega (arith, length-append l (decimal x), decimal_length 20 x (omega arith) (omega arith))
-
--- and all but the last are 19
-pub tenth_most : (l : List ℕ) (y : ℕ) → y < 10 ^ 19 → length (l ++ decimal y) ≤ length l + 19
-tenth_most l y h = omega (arith, length-append l (decimal y), decimal_length 19 y (omega arith) h)
-
-module _ (l : List ℕ) (x : ℕ) where
-  pub put_one : x < 10 → l ++ (digit x ∷ []) ≡ l ++ decimal x
-  put_one h = ap (λ (t : List ℕ). l ++ t) (sym (decimal_one x h))
-
-  pub put_more : 10 ≤ x → (l ++ decimal (x / 10)) ++ (digit x ∷ []) ≡ l ++ decimal x
-  put_more h = append_assoc l (decimal (x / 10)) (digit x ∷ []) ∙ ap (λ (t : List ℕ). l ++ t) (sym (decimal_more x h))
 
 -- ---- the definition runs: 0, and 2 ^ 40
 

@@ -13,7 +13,18 @@ unfolding hex
 hex_last [] b = append-nil (hex_byte b)
 hex_last (x ∷ xs) b = rw (hex_last xs b) (sym (append_assoc (hex_byte x) (hex xs) (hex_byte b)))
 
--- ---- put at the end of a page that has the bytes `l`
+pub hex_none : hex [] ≡ []
+unfolding hex
+hex_none = refl
+
+-- one byte more
+pub hex_next : (from : List ℕ) (i : ℕ) → i < length from → hex (take i from) ++ hex_byte (get_or from i 0) ≡ hex (take (i + 1) from)
+hex_next from i h = rw (add-one i, take-suc from i 0 h) (sym (hex_last (take i from) (get_or from i 0)))
+
+-- what begins a loop over bytes, and what one turn of it wants
+pub ruleset hex_steps = (hex_none, hex_next)
+
+-- ---- appended to a page that has the bytes `l`
 
 pub hex_begun : (l : List ℕ) → l ≡ l ++ hex []
 unfolding hex
@@ -21,9 +32,7 @@ hex_begun l = sym (append-nil l)
 
 module _ (l from : List ℕ) (i : ℕ) where
   pub hex_more : i < length from → (l ++ hex (take i from)) ++ hex_byte (get_or from i 0) ≡ l ++ hex (take (i + 1) from)
-  hex_more h =
-      rw (add-one i, take-suc from i 0 h)
-      (append_assoc l (hex (take i from)) (hex_byte (get_or from i 0)) ∙ ap (λ (t : List ℕ). l ++ t) (sym (hex_last (take i from) (get_or from i 0))))
+  hex_more h = append_assoc l (hex (take i from)) (hex_byte (get_or from i 0)) ∙ ap (λ (t : List ℕ). l ++ t) (hex_next from i h)
 
 -- the definition runs: each of the sixteen digits
 sixteen : hex (0x01 ∷ 0x23 ∷ 0x45 ∷ 0x67 ∷ 0x89 ∷ 0xAB ∷ 0xCD ∷ 0xEF ∷ []) ≡

@@ -1,2 +1,3 @@
+pub mod PutsLaws
 pub mod DecimalLaws
 pub mod HexLaws

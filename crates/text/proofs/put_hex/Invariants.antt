@@ -1,10 +1,10 @@
 -- `put_hex`: the bytes passed stand there in hex.
 use mathlib.Core.Path.{◌≡◌}
-use mathlib.Core.List.{◌++◌}
 use Prim.Native.Nat.{◌+◌, ◌*◌}
-use lib.ListN.{length, take}
+use lib.ListN.{take}
 use Rattle.text.specs.Text.{hex}
+use Rattle.text.specs.Puts.{Puts}
 use Rattle.text.proofs.put_hex.Given as goal
 
 abbrev pub invariant-loop-byte : goal.invariant-loop-byte
-invariant-loop-byte g l = (l.page ≡ l.initial.page ++ hex (take l.byte-index l.from)) × (length l.page ≡ length l.initial.page + 2 * l.byte-index)
+invariant-loop-byte l = (Puts (hex (take l.byte-index l.from)) l.initial.out l.at l.out l.end) × (l.end ≡ l.at + 2 * l.byte-index)

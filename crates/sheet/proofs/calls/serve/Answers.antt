@@ -27,8 +27,8 @@ slice_bounds-execute-end-2 c =
 pub overflow_add-i : goal.overflow_add-i
 overflow_add-i c = omega (arith, c.requires.0)
 
-pub put_line-requires : goal.put_line-requires
-put_line-requires c =
+pub append_line-requires : goal.append_line-requires
+append_line-requires c =
     let r = returned_most _ _ _ _ _ _ (c.execute-outcome.ensures) in
     (omega arith, (omega (arith, c.requires.0), omega (arith, r), omega (arith, r), omega (arith, c.requires.3)))
 
@@ -38,6 +38,6 @@ returns c =
     let q = call_is _ _ (c.args.at) _ _ _ (c.nexus_of-nexus.ensures) c.cdb_length.ensures.0 c.out_length.ensures.0 in
     record {
       left = served_store _ _ _ _ (c.execute-outcome.ensures) q;
-      line = c.put_line.ensures.0 ∙ ap (λ (l : List ℕ). c.args.page.now ++ l) (served_line _ _ _ _ (c.execute-outcome.ensures) q _);
-      most = omega (arith, c.put_line.ensures.1);
+      line = c.append_line.ensures.0 ∙ ap (λ (l : List ℕ). c.args.page.now ++ l) (served_line _ _ _ _ (c.execute-outcome.ensures) q _);
+      most = omega (arith, c.append_line.ensures.1);
     }

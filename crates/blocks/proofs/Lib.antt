@@ -1,2 +1,3 @@
+pub mod BlockLaws
 pub mod SameLaws
 pub mod StatusLaws

@@ -21,7 +21,7 @@ use Rattle.pool.specs.Valid.{slots_ok, pool_ok}
 use Rattle.pool.proofs.Keeping.{pool_ok_slots}
 use Rattle.marks.specs.Words.{room_in}
 use Rattle.marks.specs.declared.FreeRoom.{FreeRoom}
-use Rattle.marks.proofs.Walked.{walked, two_marked, marked_at_most, room_walked}
+use Rattle.marks.proofs.Walked.{walked, two_marked, marked_at_most, room_in_walked}
 use Rattle.store.specs.Store.{Store, unit_ok, usable}
 use Rattle.store.specs.Step.{store_rows}
 use Rattle.store.specs.Room.{Room, room_answer, room_of}
@@ -62,7 +62,7 @@ module _ (s : Store) where
         → room_told (Ok r) ≡ room_of s
     unfolding room_of room_answer store_rows if_good_by refuses
     room_read r f =
-        let w : r ≡ walked s.pool.owners = f ∙ room_walked s.pool.owners s.pool.marks bounded.marked bounded.slots in
+        let w : r ≡ walked s.pool.owners = f ∙ room_in_walked s.pool.owners s.pool.marks bounded.marked bounded.slots in
         rw (w, row_pass Unusable _ _ (ap not e) ∙ row_end)
 
   -- where the answer is GOOD the store is usable

@@ -14,7 +14,7 @@ use lib.ListN.{length, length-map}
 use Rattle.pool.specs.Pool.{unmap_owners, freed}
 use Rattle.pool.specs.declared.Lba.{Lba}
 use Rattle.descriptors.specs.declared.Descriptor.{Descriptor}
-use Rattle.descriptors.specs.declared.Descriptors.{Descriptors}
+use Rattle.descriptors.specs.declared.DescriptorReader.{DescriptorReader}
 use Rattle.std.specs.Prelude.{Option, Some, None, is_some}
 use Rattle.descriptors.specs.Descriptors.{descriptor_at, considered, fails, first_failing, some_fails, unmap_all}
 
@@ -79,10 +79,10 @@ module _ (owners list : List ℕ) (at : ℕ) where
 
 -- ---- a reader that gave a descriptor, and the reader behind it
 
-abbrev pub Took : Descriptors → Descriptor → Descriptors → Type 0
+abbrev pub Took : DescriptorReader → Descriptor → DescriptorReader → Type 0
 Took s d t = (d ≡ descriptor_at s.list.now s.at) × (s.left ≡ suc t.left) × (t.at ≡ s.at + 16) × (t.list ≡ s.list)
 
-module _ (s t : Descriptors) (d : Descriptor) (took : Took s d t) where
+module _ (s t : DescriptorReader) (d : Descriptor) (took : Took s d t) where
   module _ (capacity : ℕ) where
     here_is : (b : Bool) → fails capacity d ≡ b → fails capacity (descriptor_at s.list.now s.at) ≡ b
     here_is b = subst (λ (x : Descriptor). fails capacity x ≡ b) took.0

@@ -37,19 +37,19 @@ fn descriptor_at(list: &[u8], at: usize) -> Descriptor
 
 // A reader: the list as lent, the place of the descriptor that comes next, and how many are left to take. Not a range of numbers: the form is
 // named for "descriptors are taken one after another from the list as lent".
-#[derive(Drop)]
-struct Descriptors<'a> {
+#[derive(Clone, Copy)]
+pub struct DescriptorReader<'a> {
     list: &'a [u8],
     at: usize,
     left: usize,
 }
 
-impl<'a> Descriptors<'a> {
+impl<'a> DescriptorReader<'a> {
     // The first so many descriptors of a list: the first of all stands at byte 8.
-    fn new(list: &'a [u8], count: usize) -> Descriptors<'a>
+    fn new(list: &'a [u8], count: usize) -> DescriptorReader<'a>
         ensures { (result.list ≡ list.entry) × (result.at ≡ 8) × (result.left ≡ count) }
     {
-        Descriptors {
+        DescriptorReader {
             list,
             at: 8,
             left: count,
@@ -57,7 +57,7 @@ impl<'a> Descriptors<'a> {
     }
 }
 
-impl<'a> Iterator for Descriptors<'a> {
+impl<'a> Iterator for DescriptorReader<'a> {
     type Item = Descriptor;
 
     ghost can_next = { λ s. s.at + 16 * s.left < 2 ^ 15 };
@@ -100,7 +100,7 @@ pub fn first_failing(capacity: u64, list: &[u8], count: usize) -> Option<Lba>
     requires { count ≤ most_descriptors }
     ensures { result ≡ first_failing capacity list.now 8 count }
 {
-    for descriptor in Descriptors::new(list, count) {
+    for descriptor in DescriptorReader::new(list, count) {
         if fails(capacity, descriptor) {
             return Some(descriptor.address);
         }
@@ -117,7 +117,7 @@ pub fn unmap_all(owners: &mut [u64], marks: &mut [u64], list: &[u8], count: usiz
     ensures { (owners.new ≡ unmap_all owners.old list.now 8 count)
         × (marks.new ≡ marks_of owners.new) }
 {
-    for descriptor in Descriptors::new(list, count) {
+    for descriptor in DescriptorReader::new(list, count) {
         let range = Range {
             first: descriptor.address,
             count: descriptor.count,

@@ -15,8 +15,9 @@ fn names(owner: u64, range: Range) -> bool
     slots::above(owner, range.first.0 + 1) < range.count
 }
 
-// The slots of the range are freed, and lose their marks; their bytes stay. By an index: over `iter_mut` each slot that is freed takes some 12
-// instructions more.
+// The slots of the range are freed, and lose their marks; their bytes stay. The bounds are what the caller has tested of its call: of no more slots
+// than these each has its bit in the two words, and marks that were the owners' are so again where a slot loses both. By an index: over `iter_mut`
+// each slot that is freed takes some 12 instructions more.
 pub fn unmap_blocks(owners: &mut [u64], marks: &mut [u64], range: Range)
     requires { (length owners.old ≤ most_slots) × (marks.old ≡ marks_of owners.old) }
     ensures { (owners.new ≡ unmap_owners owners.old range.first.0 range.count)

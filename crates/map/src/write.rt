@@ -111,7 +111,8 @@ fn write(
     true
 }
 
-// A write of block after block.
+// A write of block after block. The bounds are what the caller has tested of its call, as for a read, and the marks are the owners' too: the free
+// slots are read off them.
 pub fn write_blocks(
     owners: &mut [u64],
     marks: &mut [u64],
@@ -129,7 +130,7 @@ pub fn write_blocks(
     write(owners, marks, medium, transfer, bytes, BLOCK_BYTES)
 }
 
-// A write of one block for the whole range.
+// A write of one block for the whole range. The bounds are those of any write, and the block is a whole one.
 pub fn write_same(
     owners: &mut [u64],
     marks: &mut [u64],

@@ -23,7 +23,7 @@ module _ (owners marks : List ℕ) (right : marks ≡ marks_of owners) where
   pub marked_at_most : marked marks ≤ length owners
   marked_at_most = let m = ap marked right in omega (arith, marked_free owners)
 
-  pub room_walked : length owners ≤ most_slots → room_in (length owners) marks ≡ walked owners
-  room_walked few =
+  pub room_in_walked : length owners ≤ most_slots → room_in (length owners) marks ≡ walked owners
+  room_in_walked few =
       let f : length owners - marked (marks_of owners) ≡ free owners = omega (arith, marked_free owners) in
       rw right (rw (f, lowest_free owners few))

@@ -67,7 +67,8 @@ impl Words {
         Slot(WORD_SLOTS + trailing_ones(self.high))
     }
 
-    // The room of so many slots.
+    // The room of so many slots. No more are marked than there are, or the difference would wrap: the caller knows it of marks that are their
+    // owners', by `marked_at_most`.
     pub fn room(self, slots: usize) -> FreeRoom
         requires { marked (both self) ≤ slots }
         ensures { result ≡ room_in slots (both self) }

@@ -1,10 +1,12 @@
--- Each question about the places, as a search of them by one test.
+-- Each question about the places, as a search of them by one test; and a place that is not sound.
 -- Assumes nothing.
 use Rattle.std.proofs.Common.{◌≡◌, ℕ, Bor, Bool, true, false, cond, not, ◌&&◌, ◌||◌, eqb, Option, None, Some, List, [], ◌∷◌, length, refl, ap, ◌∙◌, sym, arith}
+use Rattle.std.proofs.Common.{◌≢◌, ◌<◌, ne_eqb}
+use borrow.Author.Tests.{lt-leb}
 use Rattle.std.specs.List.{list_any, find}
 use Rattle.std.specs.Option.{option_map, option_map_or}
 use Rattle.rights.specs.declared.Place.{Place}
-use Rattle.rights.specs.Rights.{places_apart}
+use Rattle.rights.specs.Rights.{place_ok, places_apart}
 use Rattle.reservations.specs.Search.{sound_before}
 use Rattle.rights.specs.Places.{used, is_of, registered, known, somebody, vacant, key_of}
 
@@ -69,3 +71,9 @@ unfolding places_apart
 apart_end true whole [] e h = h
 apart_end false whole [] e h = h
 apart_end old whole (p ∷ ps) e h = absurd (omega arith)
+
+-- ---- a place that is used by a nexus there is not
+
+pub sound_beyond : (p : Place) (ps : List Place) → p.key ≢ 0 → 15 < p.nexus → false ≡ sound_before p ps
+unfolding sound_before place_ok used
+sound_beyond p ps k h = simp (ne_eqb _ _ k, lt-leb _ _ h)

@@ -34,8 +34,8 @@ pub struct Map<'a> {
 impl Map<'_> {
     // The descriptors of the runs from `lba` on, from byte 8 of `page` on; how many they are. The kind that a run is likely to have is
     // tried first, so that most runs cost one pass over the slots.
-    fn put_runs(self, lba: Lba, page: &mut [u8; PAGE_BYTES]) -> usize
-        requires { lba.0 < self.capacity }
+    fn put_runs(self, lba: Lba, page: &mut [u8]) -> usize
+        requires { (lba.0 < self.capacity) × (length page.old ≡ 520) }
         ensures { (result ≡ length (runs_from self.entry.capacity self.entry.owners.now lba.0 most_runs))
             × (page.new ≡ put page.old 8 (runs_bytes (runs_from self.entry.capacity self.entry.owners.now lba.0 most_runs))) }
     {
@@ -55,11 +55,11 @@ impl Map<'_> {
         MOST_RUNS
     }
 
-    // The first bytes of `page` become what GET LBA STATUS tells of the map from `lba` on; how many they are. The page is lent: one that is returned
-    // with its length is copied, some 200 instructions of each call.
+    // The first bytes of `page` become what GET LBA STATUS tells of the map from `lba` on; how many they are. The page is lent, also
+    // as a part of a larger buffer: one that is returned with its length is copied, some 200 instructions of each call.
     #[tactic(auto, using(crate::proofs::RunLaws::length_runs))]
-    pub fn put_status(self, lba: Lba, page: &mut [u8; PAGE_BYTES]) -> usize
-        requires { lba.0 < self.capacity }
+    pub fn put_status(self, lba: Lba, page: &mut [u8]) -> usize
+        requires { (lba.0 < self.capacity) × (length page.old ≡ 520) }
         ensures { (result ≡ length (status_data self.entry.capacity self.entry.owners.now lba.0))
             × (page.new ≡ put page.old 0 (status_data self.entry.capacity self.entry.owners.now lba.0)) }
     {

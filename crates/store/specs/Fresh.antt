@@ -28,7 +28,8 @@ fresh_answer capacity format slots words =
     ∷ Unusable if not (eqb words mark_words)
     ∷ [])
 
--- what making a store leaves; the unit of a refusal has no blocks, so that every call on it is refused
+-- what making a store leaves; a refusal makes no unit (the code has an `Err` there), and the place for it holds one without blocks, on which every
+-- call is refused
 pub record FreshResult : Type 0 where
   pub answer : Answer
   pub unit : Unit

@@ -25,12 +25,17 @@ use Rattle.map.specs.Write.{written, try_write}
 use Rattle.map.proofs.Trying.{tried, after}
 use Rattle.volume.specs.Volume.{Answer, done, refuses, first, next, if_done, told, room_by, bounds, sound, usable, transfer, read, read_answer, read_of, Wrote, wrote, write_answer, write_of, left, left_of, unmap_answer, unmap_of, fresh_answer, fresh_of, room_of, RightOwners, WrongMarks}
 use Rattle.marks.specs.Words.{room_in}
-use Rattle.marks.proofs.Walked.{walked, two_marked, marked_at_most, room_walked}
+use Rattle.marks.proofs.Walked.{walked, two_marked, marked_at_most, room_in_walked}
 use Rattle.volume.specs.declared.Trouble.{Trouble}
 use Rattle.volume.specs.declared.Trouble.TheVariants.{BadBounds, Invalid, Mismarked, TooMany, OutOfRange, Short, NoRoom}
 use Rattle.std.specs.Prelude.{Ok, Err}
 
 -- ---- refusals, and rows of this type of answer
+
+pub refused : (r : Answer) → r ≢ done → T (refuses r)
+unfolding refuses
+refused (Ok _) n = absurd (n refl)
+refused (Err t) n = tt
 
 pub one_done : OneGood done refuses
 unfolding refuses
@@ -332,18 +337,20 @@ module _ (capacity a n lent : ℕ) where
 module _ (capacity : ℕ) (p : Pool) (a n : ℕ) where
   -- what the tests tell of a transfer
   pub may_move : (lent : ℕ) → usable capacity p ≡ done → transfer capacity a n lent ≡ done
-      → (length p.owners ≤ most_slots) × (length p.medium ≡ block_bytes * length p.owners) × (block_bytes * n ≤ lent)
+      → (n ≤ most_transfer) × (a + n ≤ most_blocks) × (length p.owners ≤ most_slots)
+      × (length p.medium ≡ block_bytes * length p.owners) × (block_bytes * n ≤ lent)
   may_move lent u v =
       let f = usable_has capacity p u in
       let g = transfer_has capacity a n lent v in
-      (f.1, f.2, g.2)
+      (g.0, omega arith, f.1, f.2, g.2)
 
   -- and of a write, which changes the marks
   pub may_write : (lent : ℕ) → usable capacity p ≡ done → transfer capacity a n lent ≡ done
-      → (length p.owners ≤ most_slots) × (p.marks ≡ marks_of p.owners) × (length p.medium ≡ block_bytes * length p.owners) × (block_bytes * n ≤ lent)
+      → (n ≤ most_transfer) × (a + n ≤ most_blocks) × (length p.owners ≤ most_slots) × (p.marks ≡ marks_of p.owners)
+      × (length p.medium ≡ block_bytes * length p.owners) × (block_bytes * n ≤ lent)
   may_write lent u v =
       let f = may_move lent u v in
-      (f.0, usable_marks capacity p u, f.1, f.2)
+      (f.0, f.1, f.2, usable_marks capacity p u, f.3, f.4)
 
   module _ (lent : ℕ) where
     unusable : (r : Answer) → r ≡ usable capacity p → T (refuses r) → r ≡ read_answer capacity p a n lent
@@ -443,9 +450,9 @@ module _ (capacity : ℕ) (p : Pool) (a n : ℕ) where
     unmap_beyond h =
         unmap_is (Err OutOfRange) p (sym (rw u (next_done _ ∙ holds _ _ _ (lt-ltb capacity (a + n) h)))) (leaves (Err OutOfRange) _ _ tt)
 
-    -- what `unmap_blocks` asks
-    pub may_unmap_law : a + n ≤ capacity → (length p.owners ≤ most_slots) × (p.marks ≡ marks_of p.owners)
-    may_unmap_law h = let f = usable_has capacity p u in (f.1, usable_marks capacity p u)
+    -- what `unmap_blocks` asks, and before it the range that it takes
+    pub may_unmap_law : a + n ≤ capacity → (a + n ≤ most_blocks) × (length p.owners ≤ most_slots) × (p.marks ≡ marks_of p.owners)
+    may_unmap_law h = let f = usable_has capacity p u in (omega arith, f.1, usable_marks capacity p u)
 
     pub unmap_done : (owners marks : List ℕ) → a + n ≤ capacity → (owners ≡ unmap_owners p.owners a n) × (marks ≡ marks_of owners)
         → left done owners marks ≡ unmap_of capacity p a n
@@ -493,9 +500,9 @@ module _ (capacity : ℕ) (p : Pool) where
 
   -- where the pool is usable, the walk over the owners is told
   module _ (u : usable capacity p ≡ done) where
-    pub room_by_walk : Ok (walked p.owners) ≡ room_of capacity p
+    pub room_walked : Ok (walked p.owners) ≡ room_of capacity p
     unfolding room_of room_by
-    room_by_walk = rw u
+    room_walked = rw u
 
     pub marks_two : length p.marks ≡ mark_words
     marks_two = two_marked p.owners p.marks (usable_marks capacity p u)
@@ -505,4 +512,4 @@ module _ (capacity : ℕ) (p : Pool) where
 
     -- and what is read off the marks is the same
     pub room_told : Ok (room_in (length p.owners) p.marks) ≡ room_of capacity p
-    room_told = rw (room_walked p.owners p.marks (usable_marks capacity p u) (usable_has capacity p u).1) room_by_walk
+    room_told = rw (room_in_walked p.owners p.marks (usable_marks capacity p u) (usable_has capacity p u).1) room_walked

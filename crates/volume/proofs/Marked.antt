@@ -25,7 +25,7 @@ use Rattle.volume.specs.Volume.{Answer, done, refuses, next, bounds, usable, tra
 use Rattle.marks.specs.declared.FreeRoom.{FreeRoom}
 use Rattle.std.specs.Prelude.{Ok, Err, is_ok}
 use Rattle.volume.specs.declared.Trouble.TheVariants.{BadBounds, Invalid, Mismarked, TooMany, OutOfRange, Short, NoRoom}
-use Rattle.volume.proofs.Answering.{one_done, is_between, transfer_has, bounds_are, done_right, usable_marks, usable_ok, usable_wrong, room_by_walk}
+use Rattle.volume.proofs.Answering.{one_done, is_between, transfer_has, bounds_are, done_right, usable_marks, usable_ok, usable_wrong, room_walked}
 
 -- ---- the room is told exactly where the pool is valid
 
@@ -51,7 +51,7 @@ module _ (capacity : ℕ) (p : Pool) where
   unfolding slots_ok
   room_some r e g h =
       let u = (usable_ok capacity p).1 (room_ok.0 (ap is_ok e)) in
-      let w = room_by_walk capacity p u in
+      let w = room_walked capacity p u in
       let same : walked p.owners ≡ r = cc in
       let f : free p.owners ≡ 0 = ap (λ (x : FreeRoom). x.free) same ∙ g in
       let l : place 0 p.owners ≡ 0 = ap (λ (x : FreeRoom). x.lowest) same ∙ h in

@@ -10,8 +10,8 @@ pub read_blocks-requires : goal.read_blocks-requires
 read_blocks-requires c =
     let a = c.args in
     let r = c.in_ok-transfer.ensures in
-    rw (r.2)
-    (may_move a.capacity (pool a.owners.now a.marks.now a.medium.now) a.lba.0 a.count (length a.out.now) (sym c.in_ok-usable.ensures) (sym r.0))
+    let m = may_move a.capacity (pool a.owners.now a.marks.now a.medium.now) a.lba.0 a.count (length a.out.now) (sym c.in_ok-usable.ensures) (sym r.0) in
+    rw (r.2) (m.2, m.3, m.4)
 
 pub returns : goal.returns
 returns c =

@@ -8,7 +8,8 @@ use Rattle.volume.proofs.unmap.Goals as goal
 pub unmap_blocks-requires : goal.unmap_blocks-requires
 unmap_blocks-requires c =
     let a = c.args in
-    may_unmap_law a.capacity (pool a.owners.now a.marks.now a.medium.now) a.lba.0 a.count (sym c.in_ok-usable.ensures) c.in-Some.ensures.0
+    let m = may_unmap_law a.capacity (pool a.owners.now a.marks.now a.medium.now) a.lba.0 a.count (sym c.in_ok-usable.ensures) c.in-Some.ensures.0 in
+    (m.1, m.2)
 
 pub returns : goal.returns
 returns c =

@@ -10,8 +10,8 @@ pub write_blocks-requires : goal.write_blocks-requires
 write_blocks-requires c =
     let a = c.args in
     let r = c.in_ok-transfer.ensures in
-    rw (r.2)
-    (may_write a.capacity (pool a.owners.now a.marks.now a.medium.now) a.lba.0 a.count (length a.bytes.now) (sym c.in_ok-usable.ensures) (sym r.0))
+    let m = may_write a.capacity (pool a.owners.now a.marks.now a.medium.now) a.lba.0 a.count (length a.bytes.now) (sym c.in_ok-usable.ensures) (sym r.0) in
+    rw (r.2) (m.2, m.3, m.4, m.5)
 
 pub returns-then-not-write_blocks : goal.returns-then-not-write_blocks
 returns-then-not-write_blocks c =

@@ -2,12 +2,12 @@
 -- Assumes nothing.
 use mathlib.Core.Path.{◌≡◌, refl, sym, ap}
 use mathlib.Core.Bool.{Bool, true, false}
-use mathlib.Core.List.{List}
-use Prim.Native.Nat.{ℕ, ◌≤◌, ◌<◌, min}
+use mathlib.Core.List.{List, ◌++◌}
+use Prim.Native.Nat.{ℕ, ◌+◌, ◌≤◌, ◌<◌, min}
 use native.Mathlib.Omega.{arith}
 use native.Mathlib.Nat.{le_of_lt}
 use lib.Dec.{leb}
-use lib.ListN.{length, take, length-take}
+use lib.ListN.{length, length-append, take, length-take}
 use lib.Seq.{take_all, take-take, length-take-le}
 use borrow.Author.Tests.{leb-true, leb-false}
 use Rattle.answers.specs.declared.Refusal.{Refusal}
@@ -51,8 +51,12 @@ pub ruleset shown_steps = (data_shown, shown_most, shown_length)
 -- ---- a number
 
 -- at most 4 digits
-pub number_room : (x : ℕ) → x < 10000 → length (decimal x) ≤ 4
-number_room x h = decimal_length 4 x (omega arith) h
+pub number_length : (x : ℕ) → x < 10000 → length (decimal x) ≤ 4
+number_length x h = decimal_length 4 x (omega arith) h
+
+-- behind the bytes `l` of a page too
+pub number_room : (l : List ℕ) (x : ℕ) → x < 10000 → length (l ++ decimal x) ≤ length l + 4
+number_room l x h = omega (arith, length-append l (decimal x), number_length x h)
 
 -- ---- the answer's number
 

@@ -18,7 +18,7 @@ const SHOWN: usize = 32;
 const LINE_MOST: usize = 90;
 
 // A number of a line: no call, answer or length has more than 4 digits.
-#[tactic(auto, using(crate::proofs::LineLaws::number_room))]
+#[tactic(auto, using(crate::proofs::LineLaws::number_length))]
 fn put_number(out: &mut [u8], at: usize, x: u64) -> usize
     requires { (x < numbers_below) × (at + 20 ≤ length out.old) }
     ensures { (Puts (decimal x) out.old at out.new result) × (result ≤ at + 4) }

@@ -121,17 +121,29 @@ decimal_length (suc (suc n)) x g h =
 -- ---- put into a lent buffer
 
 -- a u64 has at most 19 digits before its last
-pub tenth_most : (y : ℕ) → y < 10 ^ 19 → length (decimal y) ≤ 19
-tenth_most y h = decimal_length 19 y (omega arith) h
+pub tenth_length : (y : ℕ) → y < 10 ^ 19 → length (decimal y) ≤ 19
+tenth_length y h = decimal_length 19 y (omega arith) h
 
 -- what one turn wants
-pub ruleset decimal_steps = (decimal_one, decimal_more, tenth_most)
+pub ruleset decimal_steps = (decimal_one, decimal_more, tenth_length)
 
 -- ---- appended to a page that has the bytes `l`
 
 -- a u64 has at most 20 digits
 pub decimal_most : (l : List ℕ) (x : ℕ) → x < 2 ^ 64 → length (l ++ decimal x) ≤ length l + 20
 decimal_most l x h = omega (arith, length-append l (decimal x), decimal_length 20 x (omega arith) (omega arith))
+
+-- and all but the last are 19
+pub tenth_most : (l : List ℕ) (y : ℕ) → y < 10 ^ 19 → length (l ++ decimal y) ≤ length l + 19
+tenth_most l y h = omega (arith, length-append l (decimal y), tenth_length y h)
+
+-- and where it is appended digit after digit: the first, and one more
+module _ (l : List ℕ) (x : ℕ) where
+  pub put_one : x < 10 → l ++ (digit x ∷ []) ≡ l ++ decimal x
+  put_one h = ap (λ (t : List ℕ). l ++ t) (sym (decimal_one x h))
+
+  pub put_more : 10 ≤ x → (l ++ decimal (x / 10)) ++ (digit x ∷ []) ≡ l ++ decimal x
+  put_more h = append_assoc l (decimal (x / 10)) (digit x ∷ []) ∙ ap (λ (t : List ℕ). l ++ t) (sym (decimal_more x h))
 
 -- ---- the definition runs: 0, and 2 ^ 40
 

@@ -80,3 +80,7 @@ reservation_some r e = rw (ne_eqb _ _ e) (simp append_assoc)
 pub shows_only : (n : ℕ) (page other : Inside n) (shown : List ℕ) → IsPage page → IsPage other → page_view page ≡ shown → page_view other ≡ shown
     → page ≡ other
 shows_only n page other shown h k e f = sym (page_same n page h) ∙ ap (page_of n) (e ∙ sym f) ∙ page_same n other k
+
+-- the same of pages as clauses see them: their bytes are equal
+pub same_shown : (page other shown : List ℕ) → page ≡ shown → other ≡ shown → page ≡ other
+same_shown page other shown e f = e ∙ sym f

@@ -184,8 +184,6 @@ static int await_end(void)
 
 static void await_kill(void)
 {
-    while (!killed)
-        pause();
     int status = await_end();
     if (!WIFSIGNALED(status) || WTERMSIG(status) != SIGKILL)
         fail("the server ended by itself", "");
@@ -408,16 +406,19 @@ static enum outcome ask_something(void)
     return ask_it(&call);
 }
 
-/* Asks until the kill; gives what became of the last request. */
+/* Asks until the kill; gives what became of the last request. The next change that
+   is kept would keep an attention's telling too, were it not kept by itself: behind
+   every second one nothing more is asked, and the kill comes between requests. */
 static enum outcome load_until_killed(void)
 {
     enum outcome outcome;
     double began = now();
-    unsigned long asked = 0;
+    unsigned long asked = 0, told;
     do {
+        told = counts.told;
         outcome = ask_something();
         asked++;
-    } while (outcome == ANSWERED);
+    } while (outcome == ANSWERED && (counts.told == told || chance(2) == 0));
     seconds_a_call = 0.9 * seconds_a_call + 0.1 * (now() - began) / (double)asked;
     return outcome;
 }
@@ -473,7 +474,7 @@ static void round_of_killing(void)
     }
     await_kill();
     counts.starting += !ready;
-    counts.between += ready && outcome == NOT_SENT;
+    counts.between += ready && outcome != UNANSWERED;
     look_at_image(outcome);
 }
 

@@ -5,15 +5,15 @@
 
    A round starts the server (SERVER and its WORDS, with options added) on the
    image in FOLDER, asks it random commands and kills it with SIGKILL after a
-   random time, often in the middle of one, sometimes while it starts. A copy of
-   the store is kept here by the same library. Every answer must be the copy's.
-   After the kill the image must be a whole one, and its store exactly the copy,
-   or the copy after the one command that was sent and not answered: marks too,
-   which the copy has as the library keeps them, and the image's store as its
-   owners have them. The next server must then answer from that store, tell each
-   nexus what waits for it, once, and tell its room, whenever it is asked. The
-   store has descriptor sense, which no server falls back to: one that forgets the
-   format shows. It has slots in both words of the marks.
+   random time, often in the middle of one, sometimes between two or while it
+   starts. A copy of the store is kept here by the same library. Every answer must
+   be the copy's. After the kill the image must be a whole one, and its store
+   exactly the copy, or the copy after the one command that was sent and not
+   answered: marks too, which the copy has as the library keeps them, and the
+   image's store as its owners have them. The next server must then answer from
+   that store, tell each nexus what waits for it, once, and tell its room, whenever
+   it is asked. The store has descriptor sense, which no server falls back to: one
+   that forgets the format shows. It has slots in both words of the marks.
 
    Prints what was killed when; ends with 0 exactly if all was as it must be. */
 #define _GNU_SOURCE

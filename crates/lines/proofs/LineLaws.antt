@@ -7,7 +7,7 @@ use Prim.Native.Nat.{ℕ, ◌+◌, ◌≤◌, ◌<◌, min}
 use native.Mathlib.Omega.{arith}
 use native.Mathlib.Nat.{le_of_lt}
 use lib.Dec.{leb}
-use lib.ListN.{length, length-append, take, length-take}
+use lib.ListN.{length, take, length-take}
 use lib.Seq.{take_all, take-take, length-take-le}
 use borrow.Author.Tests.{leb-true, leb-false}
 use Rattle.answers.specs.declared.Refusal.{Refusal}
@@ -16,7 +16,7 @@ use Rattle.answers.specs.declared.Answer.{Answer}
 use Rattle.answers.specs.declared.Answer.TheVariants.{Good, Refused, Conflict, Unusable, Short}
 use Rattle.answers.specs.Answers.{codes_of, number_of}
 use Rattle.text.specs.Text.{decimal, hex}
-use Rattle.text.proofs.DecimalLaws.{decimal_length}
+use Rattle.text.proofs.DecimalLaws.{decimal_length, appended_length}
 use Rattle.lines.specs.Line.{shown_bytes, data_text}
 
 -- ---- the first of the bytes returned
@@ -56,7 +56,7 @@ number_length x h = decimal_length 4 x (omega arith) h
 
 -- behind the bytes `l` of a page too
 pub number_room : (l : List ℕ) (x : ℕ) → x < 10000 → length (l ++ decimal x) ≤ length l + 4
-number_room l x h = omega (arith, length-append l (decimal x), number_length x h)
+number_room l x h = appended_length 4 l x (omega arith) h
 
 -- ---- the answer's number
 

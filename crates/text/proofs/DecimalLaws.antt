@@ -129,13 +129,16 @@ pub ruleset decimal_steps = (decimal_one, decimal_more, tenth_length)
 
 -- ---- appended to a page that has the bytes `l`
 
+pub appended_length : (n : ℕ) (l : List ℕ) (x : ℕ) → 1 ≤ n → x < 10 ^ n → length (l ++ decimal x) ≤ length l + n
+appended_length n l x g h = omega (arith, length-append l (decimal x), decimal_length n x g h)
+
 -- a u64 has at most 20 digits
 pub decimal_most : (l : List ℕ) (x : ℕ) → x < 2 ^ 64 → length (l ++ decimal x) ≤ length l + 20
-decimal_most l x h = omega (arith, length-append l (decimal x), decimal_length 20 x (omega arith) (omega arith))
+decimal_most l x h = appended_length 20 l x (omega arith) (omega arith)
 
 -- and all but the last are 19
 pub tenth_most : (l : List ℕ) (y : ℕ) → y < 10 ^ 19 → length (l ++ decimal y) ≤ length l + 19
-tenth_most l y h = omega (arith, length-append l (decimal y), tenth_length y h)
+tenth_most l y h = appended_length 19 l y (omega arith) h
 
 -- and where it is appended digit after digit: the first, and one more
 module _ (l : List ℕ) (x : ℕ) where
